@@ -1,0 +1,102 @@
+-- THE THEOREMS about the definitions of specs/, each in its final form; its proof is cited. A reader who believes the definitions and
+-- reads this file knows what is proved of them.
+-- Assumes nothing.
+use mathlib.Core.Logic.{_↔_}
+use mathlib.Core.Path.{_≡_}
+use Prim.Native.Nat.{ℕ, _≤_, _<_}
+use mathlib.Core.Bool.{true}
+use mathlib.Core.List.{List, [], map}
+use lib.ListN.{length}
+use Rattle.rules.specs.Lists.{each, All, Some}
+use Rattle.rules.specs.Bytes.{largest}
+use Rattle.rules.specs.Syntax.{Range}
+use Rattle.rules.specs.Grammar.{ReadsText}
+use Rattle.rules.specs.Parse.{ok, readText}
+use Rattle.rules.specs.Expansion.{Compat, Reading, Adds, pieces}
+use Rattle.rules.specs.Rows.{comparatorWords, identifierWords, allIdentifiers, InText, placelessReading}
+use Rattle.rules.specs.NormalText.{spell}
+use Rattle.rules.specs.Answers.{accepted, refused, longest, rangeFits, reading, normalText}
+use Rattle.rules.specs.Alike.{Alike, plain}
+use Rattle.rules.specs.ReadBack.{readBack}
+use Rattle.rules.specs.Examples.{benchSheet, worked, expected, answered, workedRows, rowsAnswered, rowsExpected}
+use Rattle.rules.proofs.Sound as Sound
+use Rattle.rules.proofs.Complete as Complete
+use Rattle.rules.proofs.Accepted as Accepted
+use Rattle.rules.proofs.Raised as Raised
+use Rattle.rules.proofs.Tables as Tables
+use Rattle.rules.proofs.Unread as Unread
+use Rattle.rules.proofs.RoundTrip as RoundTrip
+use Rattle.rules.proofs.ReadBackLaws as ReadBackLaws
+use Rattle.rules.proofs.Places as Places
+
+-- ---- 1. The function that reads is sound and complete for the grammar, and the grammar is unambiguous.
+
+pub sound : (t : List ℕ) (rs : List Range) (r : List ℕ) → readText t ≡ ok rs r → ReadsText t rs
+sound = Sound.sound
+
+pub complete : {t : List ℕ} {rs : List Range} → ReadsText t rs → readText t ≡ ok rs []
+complete = Complete.complete
+
+pub unambiguous : {t : List ℕ} {rs ss : List Range} → ReadsText t rs → ReadsText t ss → rs ≡ ss
+unambiguous = Complete.unambiguous
+
+-- So a text is refused with 1 exactly when it is longer than 65,535 bytes, and one that is not, with 2 exactly when no reading exists.
+pub refused-1 : (m : Compat) (t : List ℕ) → (reading m t ≡ refused 1) ↔ (longest < length t)
+refused-1 = Accepted.refused-1
+
+pub refused-2 : (m : Compat) (t : List ℕ) → length t ≤ longest → (reading m t ≡ refused 2) ↔ ((rs : List Range) → ReadsText t rs → ⊥)
+refused-2 = Accepted.refused-2
+
+-- ---- 2. Refusal 4 as 01 says it: where 1, 2 and 3 do not apply, it is given exactly when an expansion adds one to 18446744073709551615.
+
+pub refused-4 : (m : Compat) (t : List ℕ) (rs : List Range) → length t ≤ longest → ReadsText t rs → each rangeFits rs ≡ true
+    → (reading m t ≡ refused 4) ↔ Some (Adds largest) (pieces m rs)
+refused-4 = Raised.refused-4
+
+-- ---- 3. The bench sheet of 01.
+
+pub bench-sheet : map answered benchSheet ≡ map expected benchSheet
+bench-sheet = Tables.tables .0
+
+-- ---- 4. Further worked examples: the misreadings that 01 shuts out, its edges, and examples of node-semver's README.
+
+pub worked-examples : map answered worked ≡ map expected worked
+worked-examples = Tables.tables .1
+
+-- and the words of four readings
+pub worked-rows : map rowsAnswered workedRows ≡ map rowsExpected workedRows
+worked-rows = Tables.tables .2
+
+-- ---- 5. Two accepted texts that are alike but for bytes behind a wildcard in the same partial have the same reading, places included.
+
+pub alike : (m : Compat) (t t′ : List ℕ) (rs rs′ : Reading) → Alike plain t t′ → reading m t ≡ accepted rs → reading m t′ ≡ accepted rs′ → rs ≡ rs′
+alike = Unread.alike
+
+pub alike-length : (t t′ : List ℕ) → Alike plain t t′ → length t ≡ length t′
+alike-length t t′ h = Unread.alike-length h
+
+-- ---- 6. Requirement 3. Two accepted texts, each under a mode of its own, have equal readings exactly when they have equal normal texts,
+-- however long these are.
+
+pub equal-readings : (m m′ : Compat) (t t′ : List ℕ) (rs rs′ : Reading) → reading m t ≡ accepted rs → reading m′ t′ ≡ accepted rs′
+    → (placelessReading rs ≡ placelessReading rs′) ↔ (spell rs ≡ spell rs′)
+equal-readings = RoundTrip.same-reading
+
+-- A normal text of at most 65,535 bytes is accepted under every mode, and its reading equals the one that it was written from.
+pub round-trip : (m m′ : Compat) (t : List ℕ) (rs : Reading) → reading m t ≡ accepted rs → length (spell rs) ≤ longest
+    → (ss : Reading) × (reading m′ (spell rs) ≡ accepted ss) × (placelessReading ss ≡ placelessReading rs)
+round-trip = RoundTrip.round-trip
+
+-- So it is its own normal text.
+pub normal-normal : (m m′ : Compat) (t w : List ℕ) → normalText m t ≡ accepted w → length w ≤ longest → normalText m′ w ≡ accepted w
+normal-normal = RoundTrip.normal-normal
+
+-- ---- 7. The words of the rows, with the text, determine the reading.
+
+pub read-back : (m : Compat) (t : List ℕ) (rs : Reading) → reading m t ≡ accepted rs → readBack t (comparatorWords rs) (identifierWords (length t) rs) ≡ rs
+read-back = ReadBackLaws.read-back
+
+-- ---- 8. Each text identifier of an accepted reading lies within the text, where its bytes stand.
+
+pub places : (m : Compat) (t : List ℕ) (rs : Reading) → reading m t ≡ accepted rs → All (InText t) (allIdentifiers rs)
+places = Places.places

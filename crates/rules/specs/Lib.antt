@@ -1,0 +1,12 @@
+pub mod Lists
+pub mod Bytes
+pub mod Syntax
+pub mod Grammar
+pub mod Parse
+pub mod Expansion
+pub mod Rows
+pub mod NormalText
+pub mod Answers
+pub mod Alike
+pub mod ReadBack
+pub mod Examples
