@@ -102,7 +102,7 @@ one-read : {p : ℕ → Bool} {s t : List ℕ} {c : ℕ} → OneOf p s c t → o
 unfolding oneOf
 one-read (OneOf.one e) = rw e
 
-one-fails : (p : ℕ → Bool) (s : List ℕ) → Stops p s → oneOf p s ≡ fail
+pub one-fails : (p : ℕ → Bool) (s : List ℕ) → Stops p s → oneOf p s ≡ fail
 unfolding oneOf
 one-fails p [] h = refl
 one-fails p (c ∷ s) h = rw h
@@ -169,7 +169,7 @@ word-digit [] h = tt
 word-digit (c ∷ s) h = neither (isLetter c) (isDigit c) h
 
 -- a letter begins no number
-letter-number : {s t : List ℕ} {c : ℕ} → OneOf isLetter s c t → readNumber s ≡ fail
+pub letter-number : {s t : List ℕ} {c : ℕ} → OneOf isLetter s c t → readNumber s ≡ fail
 unfolding readNumber _then_ choose passes isNonzero
 letter-number {s} o = rw (literal-fails 48 [] s (letter-stops _ refl refl refl o), one-fails isNonzero s (letter-stops isNonzero refl refl refl o))
 

@@ -17,4 +17,7 @@ pub mod Decimal
 pub mod Pairwise
 pub mod Spelling
 pub mod RoundTrip
+pub mod Left
+pub mod Repeat
+pub mod Heads
 pub mod Theorems

@@ -67,7 +67,7 @@ spaces₁-sound s = gives-then (oneOf-sound isSpace s) λ c t h. gives (Spaces�
 
 -- ---- partials
 
-number-sound : (s : List ℕ) → Gives (ReadsNumber s) (readNumber s)
+pub number-sound : (s : List ℕ) → Gives (ReadsNumber s) (readNumber s)
 unfolding readNumber run _then_
 number-sound s =
     gives-choose (literal-sound (bytes "0") s) (λ u r h. gives (ReadsNumber.zero h))

@@ -154,3 +154,10 @@ atEnd (c ∷ s) = fail
 
 unfoldable pub readText : List ℕ → Result (List Range)
 readText s = readRange (skip s) then λ a t. all readFurther t then λ l r. atEnd (skip r) then λ u e. ok (a ∷ l) e
+
+-- ---- for code that counts
+
+-- how many bytes are left behind what is read; all of them where nothing is read
+abbrev pub leftOf : {A : Type 0} → List ℕ → Result A → ℕ
+leftOf s fail = length s
+leftOf s (ok a r) = length r

@@ -1,0 +1,4 @@
+pub mod Classes
+pub mod Scan
+pub mod Numbers
+pub mod IdentifierLaws

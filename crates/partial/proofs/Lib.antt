@@ -1,0 +1,3 @@
+pub mod Methods
+pub mod Unread
+pub mod Reading
