@@ -225,7 +225,8 @@ pub fn read_number(s: &[u8]) -> Number
             left: 0,
         };
     }
-    if s[0] == b'0' {
+    let first = s[0];
+    if first == b'0' {
         return Number {
             value: 0,
             large: false,

@@ -10,9 +10,11 @@ use mir.Val.{Fits}
 use mir.Syntax.{w64}
 use Rattle.rules.specs.Bytes.{largest}
 use Rattle.lexer.specs.Views.{saturated, tooLarge}
-use Rattle.partial.specs.Views.{renumbered, incMajor, incMinor, incPatch, zeroBehind, zeroMissing}
+use Rattle.partial.specs.Views.{renumbered, incMajor, incMinor, incPatch, zeroBehind, zeroMissing, opOf, spellingOf}
 use Rattle.partial.specs.declared.PartialKind.{PartialKind}
 use Rattle.partial.specs.declared.Partial.{Partial}
+use Rattle.partial.specs.declared.Op.{Op}
+use Rattle.partial.specs.declared.Spelling.{Spelling}
 
 -- ---- one more
 
@@ -50,3 +52,8 @@ module _ (p : Partial) where
   missing k e = rw e
 
 pub ruleset methods = (major-over, major-more, minor-over, minor-more, patch-over, patch-more, missing)
+
+-- ---- operators
+
+pub spelled : (o p : Op) → o ≡ p → (x : Spelling) → x ≡ spellingOf (opOf p) → x ≡ spellingOf (opOf o)
+spelled o p e x q = rw e q

@@ -2,16 +2,16 @@
 -- where they begin.
 -- Assumes nothing.
 use Prim.Native.Nat.{ℕ, zero, suc}
-use mathlib.Core.List.{List, [], _∷_}
+use mathlib.Core.List.{List, [], _∷_, _++_}
 use mathlib.Core.Bool.{Bool, true, false, not, _||_}
 use mathlib.Core.Option.{Option, none, some}
-use lib.ListN.{length}
+use lib.ListN.{length, take}
 use Rattle.rules.specs.Bytes.{bytes, isWild}
 use Rattle.rules.specs.Syntax as S
 use Rattle.rules.specs.Parse.{Result, fail, ok, _then_, choose, oneOf, literal, readNumber, readComponent, readDot, afterThree, afterTwo, afterOne}
 use Rattle.rules.specs.Expansion.{majorOf, minorOf, patchOf}
 use Rattle.rules.specs.Answers.{partialFits}
-use Rattle.rules.specs.Rows as Rows
+use Rattle.rules.specs.NormalText.{spellOp}
 use Rattle.lexer.specs.Views.{saturated, tooLarge}
 use Rattle.partial.specs.declared.PartialKind.{PartialKind}
 use Rattle.partial.specs.declared.PartialKind.the-variants.{XRangeOnly, MajorOnly, MajorMinor, MajorMinorPatch}
@@ -19,6 +19,7 @@ use Rattle.partial.specs.declared.Partial.{Partial}
 use Rattle.partial.specs.declared.Op.{Op}
 use Rattle.partial.specs.declared.Op.the-variants.{Lt, Lte, Gt, Gte, Eq}
 use Rattle.partial.specs.declared.Comparator.{Comparator}
+use Rattle.partial.specs.declared.Spelling.{Spelling}
 
 -- ---- operators
 
@@ -29,6 +30,11 @@ opOf Lte = S.lte
 opOf Gt = S.gt
 opOf Gte = S.gte
 opOf Eq = S.eq
+
+-- an operator's bytes, filled up with zeros to two
+unfoldable pub spellingOf : S.Op → Spelling
+unfolding spellOp
+spellingOf o = record { bytes = take 2 (spellOp o ++ (0 ∷ 0 ∷ [])); len = length (spellOp o) }
 
 -- ---- partials
 

@@ -8,7 +8,7 @@ ghost use Rattle.rules.specs.Bytes.{isWild};
 ghost use Rattle.rules.specs.Parse.{oneOf, leftOf, readComponent, readDot, afterThree, afterTwo, afterOne, readPartial};
 ghost use Rattle.rules.specs.Rows.{opCode};
 ghost use Rattle.lexer.specs.Views.{numberOf};
-ghost use Rattle.partial.specs.Views.{opOf, partialOf, marked, fromTwo, fromOne, fromStart, wildThird, wildSecond, wildFirst, partlyRead, readDotNumber, readDotWildcard, incMajor, incMinor, incPatch, zeroMinor, zeroPatch, noPre, zeroMissing, asComparator};
+ghost use Rattle.partial.specs.Views.{opOf, spellingOf, partialOf, marked, fromTwo, fromOne, fromStart, wildThird, wildSecond, wildFirst, partlyRead, readDotNumber, readDotWildcard, incMajor, incMinor, incPatch, zeroMinor, zeroPatch, noPre, zeroMissing, asComparator};
 use lexer::Number;
 
 // ---- operators
@@ -19,6 +19,12 @@ pub enum Op {
     Gt,
     Gte,
     Eq,
+}
+
+// The first len of the bytes; the others are 0.
+pub struct Spelling {
+    pub bytes: [u8; 2],
+    pub len: usize,
 }
 
 impl Op {
@@ -41,6 +47,33 @@ impl Op {
             Op::Gt => Op::GT,
             Op::Gte => Op::GTE,
             Op::Eq => Op::EQ,
+        }
+    }
+
+    pub fn spelling(self) -> Spelling
+        ensures { λ r. ⌜ r ≡ spellingOf (opOf self) ⌝ }
+    {
+        match self {
+            Op::Lt => Spelling {
+                bytes: [b'<', 0],
+                len: 1,
+            },
+            Op::Lte => Spelling {
+                bytes: [b'<', b'='],
+                len: 2,
+            },
+            Op::Gt => Spelling {
+                bytes: [b'>', 0],
+                len: 1,
+            },
+            Op::Gte => Spelling {
+                bytes: [b'>', b'='],
+                len: 2,
+            },
+            Op::Eq => Spelling {
+                bytes: [b'=', 0],
+                len: 1,
+            },
         }
     }
 }
@@ -270,8 +303,8 @@ fn skip_third(s: &[u8]) -> usize
     if n == s.len() {
         return n;
     }
-    let at = s.len() - n;
-    let q = lexer::skip_qualifier(&s[at..]);
+    let behind = s.len() - n;
+    let q = lexer::skip_qualifier(&s[behind..]);
     q.left
 }
 
@@ -283,8 +316,8 @@ fn skip_second(s: &[u8]) -> usize
     if n == s.len() {
         return n;
     }
-    let at = s.len() - n;
-    skip_after_two(&s[at..])
+    let behind = s.len() - n;
+    skip_after_two(&s[behind..])
 }
 
 // Where no number stands.
@@ -295,8 +328,8 @@ fn skip_first(s: &[u8]) -> usize
     if n == s.len() {
         return n;
     }
-    let at = s.len() - n;
-    skip_after_one(&s[at..])
+    let behind = s.len() - n;
+    skip_after_one(&s[behind..])
 }
 
 // ---- a partial: each component that is a number is read, up to the first that is none

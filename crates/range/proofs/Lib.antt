@@ -1,0 +1,4 @@
+pub mod Leads
+pub mod Shapes
+pub mod Expansions
+pub mod Raising
