@@ -282,11 +282,11 @@ gap-read {s} (G.plain (G.spaces₁ o k)) = rw (literal-fails 44 [] s (space-stop
 gap-read (G.comma b k) = rw (literal-read b, spaces₁-read k)
 
 -- neither the end nor a bar begins an item
-end-item : readItem [] ≡ fail
+pub end-item : readItem [] ≡ fail
 unfolding readItem readPrefix readPartial readComponent readNumber oneOf literal _then_ choose
 end-item = refl
 
-bar-item : (s : List ℕ) → readItem (124 ∷ s) ≡ fail
+pub bar-item : (s : List ℕ) → readItem (124 ∷ s) ≡ fail
 unfolding readItem readPrefix readPartial readComponent readNumber oneOf literal _then_ choose isNonzero
 bar-item s = refl
 

@@ -20,4 +20,13 @@ pub mod RoundTrip
 pub mod Left
 pub mod Repeat
 pub mod Heads
+pub mod LeftItems
+pub mod Once
+pub mod Following
+pub mod StepLeft
+pub mod WalkLaws
+pub mod StepNames
+pub mod Tallies
+pub mod ReadingCall
+pub mod WalkWords
 pub mod Theorems

@@ -16,9 +16,9 @@ nonempty-append l nonempty = nonempty
 gives-nonempty : {p : Partial} {x : Piece} → Gives p x → Nonempty (comparators x)
 unfolding comparators asRead raised
 gives-nonempty as-read = nonempty
-gives-nonempty (raises {c = major}) = nonempty
-gives-nonempty (raises {c = minor}) = nonempty
-gives-nonempty (raises {c = patch}) = nonempty
+gives-nonempty (raises {c = major} e) = nonempty
+gives-nonempty (raises {c = minor} e) = nonempty
+gives-nonempty (raises {c = patch} e) = nonempty
 
 -- the left partial gives one, or else the right one does
 hyphen-nonempty : (p q : Partial) → Nonempty (comparators (expandLeft p) ++ (comparators (expandRight p q) ++ []))

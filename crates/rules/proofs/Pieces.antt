@@ -2,15 +2,16 @@
 -- Assumes nothing.
 use mathlib.Core.Path.{_≡_, refl}
 use mathlib.Core.Option.{Option, none, some}
-use Rattle.rules.specs.Syntax.{Partial, xRangeOnly, majorOnly, majorMinor, majorMinorPatch, Op, lt, lte, gt, gte, eq, Prefix, bare, tilde, caret, op, item}
+use mathlib.Core.List.{[]}
+use Rattle.rules.specs.Syntax.{identifiersOf, Partial, xRangeOnly, majorOnly, majorMinor, majorMinorPatch, Op, lt, lte, gt, gte, eq, Prefix, bare, tilde, caret, op, item}
 use Rattle.rules.specs.Expansion.{Compat, cargo, npm, Component, Piece, piece, expandEq, expandCaret, expandTilde, expandBare, expandLte, expandOp, expandItem, expandLeft, expandRight}
 
 -- ---- items
 
--- a piece of the partial p that gives a comparator: p as read, perhaps an Lt too; or an Lt alone
+-- a piece of the partial p that gives a comparator: p as read, perhaps an Lt too; or, of a partial without identifiers, an Lt alone
 pub data Gives (p : Partial) : Piece → Type 0 where
   as-read : {o : Op} {c : Option Component} → Gives p (piece (some o) c p)
-  raises : {c : Component} → Gives p (piece none (some c) p)
+  raises : {c : Component} → identifiersOf p ≡ [] → Gives p (piece none (some c) p)
 
 pub item-gives : (m : Compat) (f : Prefix) (p : Partial) → Gives p (expandItem m (item f p))
 unfolding expandItem expandBare expandEq expandTilde expandCaret expandOp expandLte
@@ -31,8 +32,8 @@ item-gives m (op gt) (majorMinor a b) = as-read
 item-gives m (op gt) (majorMinorPatch a b c is) = as-read
 item-gives m (op gte) p = as-read
 item-gives m (op lte) xRangeOnly = as-read
-item-gives m (op lte) (majorOnly a) = raises
-item-gives m (op lte) (majorMinor a b) = raises
+item-gives m (op lte) (majorOnly a) = raises refl
+item-gives m (op lte) (majorMinor a b) = raises refl
 item-gives m (op lte) (majorMinorPatch a b c is) = as-read
 item-gives m (op eq) xRangeOnly = as-read
 item-gives m (op eq) (majorOnly a) = as-read
@@ -44,7 +45,7 @@ partialIn (piece o c p) = p
 
 pub gives-partial : {p : Partial} {x : Piece} → Gives p x → partialIn x ≡ p
 gives-partial as-read = refl
-gives-partial raises = refl
+gives-partial (raises e) = refl
 
 -- ---- hyphen ranges
 

@@ -4,7 +4,7 @@ use mathlib.Core.Logic.{_↔_}
 use mathlib.Core.Path.{_≡_, refl, sym, ap, ap₂, _∙_}
 use Prim.Native.Nat.{ℕ, suc, _≤_, _<_}
 use native.Mathlib.Omega.{arith}
-use mathlib.Core.Bool.{Bool, true, false, _&&_}
+use mathlib.Core.Bool.{Bool, true, false, not, _&&_}
 use mathlib.Core.Option.{Option, none, some}
 use mathlib.Core.List.{List, [], _∷_, _++_, map}
 use lib.Dec.{leb}
@@ -16,6 +16,7 @@ use Rattle.rules.specs.Syntax.{Partial, Op, Item, item, Range, nothing, 
 use Rattle.rules.specs.Grammar.{ReadsText}
 use Rattle.rules.specs.Expansion.{Compat, majorOf, minorOf, patchOf, Component, major, minor, patch, componentOf, Piece, piece, Adds, asRead, raised, comparators, expandItem, expandLeft, expandRight, expandRange, pieces, comparatorsOf, Reading, expand}
 use Rattle.rules.specs.Answers.{Answer, refused, longest, fits, partialFits, itemFits, rangeFits, comparatorFits, readingFits, reading}
+use Rattle.rules.specs.Walk.{overIn}
 use Rattle.rules.proofs.Follows.{both}
 use Rattle.rules.proofs.All.{all-weaken, all-append, all-concat, all-map, each-all, each-append, each-concat-map, each-some, some-each, some-with}
 use Rattle.rules.proofs.Pieces.{partialIn, gives-partial, item-gives, left-partial, right-partial}
@@ -96,6 +97,23 @@ range-pieces m (hyphen p q) e =
 text-pieces : (m : Compat) (rs : List Range) → each rangeFits rs ≡ true → All Fits (pieces m rs)
 unfolding pieces
 text-pieces m rs e = all-concat (all-map (expandRange m) (all-weaken (range-pieces m) (each-all rangeFits rs e)))
+
+-- where no component that was read is too large, a comparator is exactly where a component cannot be raised
+not-over : (x : Piece) → Fits x → pieceFits x ≡ not (overIn x)
+unfolding raised
+not-over (piece o none p) f = piece-raised o none p f
+not-over (piece o (some c) p) f = piece-raised o (some c) p f ∙ raised-fits c p f ∙ sym (not-not (fits (suc (componentOf c p))))
+  where
+    not-not : (b : Bool) → not (not b) ≡ b
+    not-not true = refl
+    not-not false = refl
+
+pub expand-over : (m : Compat) (rs : List Range) → each rangeFits rs ≡ true → readingFits (expand m rs) ≡ each (λ x. not (overIn x)) (pieces m rs)
+expand-over m rs e = expand-fits m rs ∙ go (text-pieces m rs e)
+  where
+    go : {l : List Piece} → All Fits l → each pieceFits l ≡ each (λ x. not (overIn x)) l
+    go all[] = refl
+    go (all∷ {a} h k) = ap₂ _&&_ (not-over a h) (go k)
 
 pub refused-4 : (m : Compat) (t : List ℕ) (rs : List Range) → length t ≤ longest → ReadsText t rs → each rangeFits rs ≡ true
     → (reading m t ≡ refused 4) ↔ Some (Adds largest) (pieces m rs)

@@ -7,6 +7,7 @@ pub mod Expansion
 pub mod Rows
 pub mod NormalText
 pub mod Answers
+pub mod Walk
 pub mod Alike
 pub mod ReadBack
 pub mod Examples

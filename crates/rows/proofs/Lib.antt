@@ -1,0 +1,5 @@
+pub mod Stores
+pub mod Puts
+pub mod RowLaws
+pub mod Found
+pub mod Storing

@@ -1,0 +1,214 @@
+-- The walk over a text, one piece after another, as code takes it: each step reads a partial with what stands before it, and says by the first
+-- byte behind the spaces what stands behind it. Cited by contracts; that the walk gives what the grammar derives, expanded, is proved
+-- (`text-walk`, proofs/WalkLaws.antt), so nothing of it has to be believed.
+-- Assumes nothing.
+use mathlib.Core.Path.{_≡_}
+use Prim.Native.Nat.{ℕ, suc, _+_}
+use mathlib.Core.Bool.{Bool, true, false, not, _&&_, _||_}
+use mathlib.Core.Option.{Option, none, some}
+use mathlib.Core.List.{List, [], _∷_, _++_, map}
+use lib.Dec.{eqb, ltb}
+use lib.ListN.{length}
+use Rattle.rules.specs.Lists.{concat}
+use Rattle.rules.specs.Bytes.{pick}
+use Rattle.rules.specs.Syntax as S
+use Rattle.rules.specs.Syntax.{Partial, xRangeOnly, majorOnly, majorMinor, majorMinorPatch, identifiersOf, Prefix, bare, tilde, caret, op, Range}
+use Rattle.rules.specs.Parse.{Result, fail, ok, literal, skip, spaces₁, readPartial, readPrefix}
+use Rattle.rules.specs.Expansion.{Compat, componentOf, Piece, piece, comparators, everything, expandItem, expandLeft, expandRight, expandRange}
+use Rattle.rules.specs.Rows.{comparatorRow, identifierRow}
+use Rattle.rules.specs.Answers.{fits, partialFits}
+
+-- ---- what stands behind a piece
+
+-- An item of the same range; a further range; the right side of a hyphen range, whose left side gave a row, or gave none; the text's end; or
+-- nothing that the grammar has.
+pub data Stage : Type 0 where
+  item range right only end bad : Stage
+
+-- and the text from there on
+pub data Behind : Type 0 where
+  behind : Stage → List ℕ → Behind
+
+-- what a reader's answer gives, or else
+abbrev pub answer : {A B : Type 0} → Result A → (A → List ℕ → B) → B → B
+answer fail f b = b
+answer (ok a r) f b = f a r
+
+abbrev pub nowhere : Behind
+nowhere = behind bad []
+
+-- behind a range and spaces: the end, or the separator
+abbrev pub closes : List ℕ → Behind
+closes [] = behind end []
+closes (c ∷ s) = answer (literal (0x7C ∷ 0x7C ∷ []) (c ∷ s)) (λ u r. behind range r) nowhere
+
+abbrev pub afterRange : List ℕ → Behind
+afterRange s = closes (skip s)
+
+-- Behind an item and spaces, if there were any: the range closes by a bar; a dash may follow a bare partial that begins a range; another item
+-- follows spaces, or a comma and spaces.
+abbrev pub continues : Bool → Bool → List ℕ → Behind
+continues dashed spaced [] = behind end []
+continues dashed spaced (c ∷ s) =
+    pick (eqb c 124) (closes (c ∷ s))
+    (pick spaced (pick (dashed && eqb c 45) (answer (spaces₁ s) (λ u r. behind right r) nowhere) (behind item (c ∷ s)))
+    (pick (eqb c 44) (answer (spaces₁ s) (λ u r. behind item r) nowhere) nowhere))
+
+unfoldable pub follow : Bool → List ℕ → Behind
+follow dashed s = continues dashed (ltb (length (skip s)) (length s)) (skip s)
+
+-- ---- a step
+
+pub data Step : Type 0 where
+  step : Piece → Stage → List ℕ → Step
+
+abbrev pub stuck : Step
+stuck = step everything bad []
+
+abbrev pub stepTo : Piece → Behind → Step
+stepTo x (behind st r) = step x st r
+
+-- what stands before a partial, and where the partial begins
+abbrev pub prefixAt : List ℕ → Prefix
+prefixAt s = answer (readPrefix s) (λ f t. f) bare
+
+abbrev pub partialAt : List ℕ → List ℕ
+partialAt s = answer (readPrefix s) (λ f t. skip t) s
+
+abbrev pub isBare : Prefix → Bool
+isBare bare = true
+isBare tilde = false
+isBare caret = false
+isBare (op o) = false
+
+-- the right side of a hyphen range with this left side
+abbrev pub rightOf : Partial → Stage
+rightOf xRangeOnly = only
+rightOf (majorOnly a) = right
+rightOf (majorMinor a b) = right
+rightOf (majorMinorPatch a b c is) = right
+
+-- an item, or the left side of a hyphen range, by what follows it
+abbrev pub taken : Compat → Prefix → Partial → Behind → Step
+taken m f p (behind right r) = step (expandLeft p) (rightOf p) r
+taken m f p (behind item r) = step (expandItem m (S.item f p)) item r
+taken m f p (behind range r) = step (expandItem m (S.item f p)) range r
+taken m f p (behind only r) = stuck
+taken m f p (behind end r) = step (expandItem m (S.item f p)) end r
+taken m f p (behind bad r) = stuck
+
+-- an item; where none is read, what then is
+unfoldable pub nextItem : Compat → Bool → Step → List ℕ → Step
+unfolding follow
+nextItem m first other s = answer (readPartial (partialAt s)) (λ p r. taken m (prefixAt s) p (follow (first && isBare (prefixAt s)) r)) other
+
+unfoldable pub nextRight : Partial → List ℕ → Step
+nextRight p s = answer (readPartial s) (λ q r. stepTo (expandRight p q) (afterRange r)) stuck
+
+unfoldable pub next : Compat → Stage → List ℕ → Step
+unfolding nextItem nextRight
+next m range s = nextItem m true (stepTo everything (afterRange (skip s))) (skip s)
+next m item s = nextItem m false stuck s
+next m right s = nextRight (majorOnly 0) s
+next m only s = nextRight xRangeOnly s
+next m end s = stuck
+next m bad s = stuck
+
+-- ---- all steps
+
+-- a piece before those that follow it in its range
+abbrev pub push : Piece → List (List Piece) → List (List Piece)
+push x [] = (x ∷ []) ∷ []
+push x (ps ∷ rs) = (x ∷ ps) ∷ rs
+
+abbrev pub mapOption : {A B : Type 0} → (A → B) → Option A → Option B
+mapOption f none = none
+mapOption f (some a) = some (f a)
+
+-- a step at this stage begins a range, or goes on with one
+abbrev pub opening : Stage → List (List Piece) → List (List Piece)
+opening range rs = [] ∷ rs
+opening item rs = rs
+opening right rs = rs
+opening only rs = rs
+opening end rs = rs
+opening bad rs = rs
+
+abbrev pub goesOn : Stage → Bool
+goesOn item = true
+goesOn range = true
+goesOn right = true
+goesOn only = true
+goesOn end = false
+goesOn bad = false
+
+-- What is still to come at a stage: first the pieces of the range that has begun, then those of the further ranges; none, if it has no reading.
+pub data Walks (m : Compat) : Stage → List ℕ → Option (List (List Piece)) → Type 0 where
+  ends : {s : List ℕ} → Walks m end s (some ([] ∷ []))
+  fails : {s : List ℕ} → Walks m bad s none
+  goes : {st st′ : Stage} {s r : List ℕ} {x : Piece} {o : Option (List (List Piece))}
+      → goesOn st ≡ true → next m st s ≡ step x st′ r → Walks m st′ r o → Walks m st s (mapOption (λ rs. opening st (push x rs)) o)
+
+-- the pieces of each range of a text
+abbrev pub walkOf : Compat → Result (List Range) → Option (List (List Piece))
+walkOf m fail = none
+walkOf m (ok rs r) = some (map (expandRange m) rs)
+
+-- ---- what is counted of the pieces
+
+abbrev pub total : {A : Type 0} → (A → ℕ) → List A → ℕ
+total f [] = 0
+total f (a ∷ l) = f a + total f l
+
+abbrev pub someOf : {A : Type 0} → (A → Bool) → List A → Bool
+someOf p [] = false
+someOf p (a ∷ l) = p a || someOf p l
+
+-- how many comparators a piece gives, and how many identifiers
+abbrev pub rowsIn : Piece → ℕ
+rowsIn x = length (comparators x)
+
+abbrev pub namesIn : Piece → ℕ
+namesIn (piece o c p) = length (identifiersOf p)
+
+-- a component that was read is above the largest number; one that is raised is not below it
+abbrev pub largeIn : Piece → Bool
+largeIn (piece o c p) = not (partialFits p)
+
+abbrev pub overIn : Piece → Bool
+overIn (piece o none p) = false
+overIn (piece o (some c) p) = not (fits (suc (componentOf c p)))
+
+-- of a text: how many ranges, comparator rows and identifier rows, and whether refusal 3 or 4 applies
+pub record Tally : Type 0 where
+  pub ranges : ℕ
+  pub rows : ℕ
+  pub names : ℕ
+  pub large : Bool
+  pub over : Bool
+
+unfoldable pub tally : List (List Piece) → Tally
+tally rs =
+    let ps = concat rs in
+    record { ranges = length rs; rows = total rowsIn ps; names = total namesIn ps; large = someOf largeIn ps; over = someOf overIn ps }
+
+-- ---- the words of the pieces
+
+-- the comparator rows of a piece in range k, and its identifier rows in a text of n bytes
+unfoldable pub pieceWords : ℕ → Piece → List ℕ
+unfolding comparatorRow
+pieceWords k x = concat (map (comparatorRow k) (comparators x))
+
+unfoldable pub pieceNames : ℕ → Piece → List ℕ
+unfolding identifierRow
+pieceNames n (piece o c p) = concat (map (identifierRow n) (identifiersOf p))
+
+-- of the ranges from number k on
+unfoldable pub walkWords : ℕ → List (List Piece) → List ℕ
+unfolding pieceWords
+walkWords k [] = []
+walkWords k (ps ∷ rs) = concat (map (pieceWords k) ps) ++ walkWords (suc k) rs
+
+unfoldable pub walkNames : ℕ → List (List Piece) → List ℕ
+unfolding pieceNames
+walkNames n rs = concat (map (pieceNames n) (concat rs))

@@ -1,0 +1,5 @@
+pub mod Behinds
+pub mod Starts
+pub mod Taking
+pub mod Nexts
+pub mod Within
