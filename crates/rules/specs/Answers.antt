@@ -1,11 +1,11 @@
 -- The answers of the calls: the refusals in 01's order, each decided over the whole text before the next, and what becomes of the lent
 -- memory (01, "What a call hands back").
 -- Assumes nothing.
-use Prim.Native.Nat.{ℕ, _/_}
+use Prim.Native.Nat.{ℕ, _+_, _/_}
 use mathlib.Core.Bool.{Bool, true, false, _&&_}
 use mathlib.Core.List.{List, [], _∷_, _++_, map}
 use lib.Dec.{leb}
-use lib.ListN.{length, drop}
+use lib.ListN.{length, take, drop}
 use Rattle.rules.specs.Lists.{concat, each}
 use Rattle.rules.specs.Bytes.{largest, pick}
 use Rattle.rules.specs.Syntax.{Partial, Item, item, Range, nothing, items, hyphen}
@@ -124,6 +124,13 @@ comparatorWordsAfter a old = written comparatorWords a old
 unfoldable pub identifierWordsAfter : List ℕ → Answer Reading → List ℕ → List ℕ
 unfolding written identifierWords
 identifierWordsAfter t a old = written (identifierWords (length t)) a old
+
+-- ---- the identifier bytes call
+
+-- "The identifier's bytes are handed back as that part of the caller's text; if place plus length passes the end, the empty part. It never
+-- refuses."
+abbrev pub identifierBytes : List ℕ → ℕ → ℕ → List ℕ
+identifierBytes t place n = pick (leb (place + n) (length t)) (take n (drop place t)) []
 
 -- ---- the normal text call
 

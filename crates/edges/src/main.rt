@@ -1,0 +1,179 @@
+// 01's "other edges", read and printed. A line for each reading: the text, the mode, 01's number, and the counts of ranges, comparator rows and
+// identifier rows; under an accepted text its rows.
+use range::Compat;
+use rangeset::Reading;
+use rangeset::read;
+
+fn put(text: &[u8]) {
+    io::write_all(1, text);
+}
+
+fn put_number(n: u64) {
+    put(b" ");
+    io::print_decimal(1, n);
+}
+
+fn put_mode(compat: Compat) {
+    match compat {
+        Compat::Cargo => put(b" cargo"),
+        Compat::Npm => put(b" npm"),
+    }
+}
+
+// 01's number.
+fn refusal(r: Reading) -> u64 {
+    match r {
+        Reading::Accepted(counts) => 0,
+        Reading::TooLong => 1,
+        Reading::NoReading => 2,
+        Reading::TooLarge => 3,
+        Reading::Over => 4,
+        Reading::ComparatorsShort => 5,
+        Reading::IdentifiersShort => 6,
+    }
+}
+
+fn put_words(words: &[u64]) {
+    let mut i = 0;
+    while i < words.len() {
+        put_number(words[i]);
+        i += 1;
+    }
+    put(b"\n");
+}
+
+// 01's number and the three counts.
+fn put_answer(r: Reading) {
+    put_number(refusal(r));
+    match r {
+        Reading::Accepted(counts) => {
+            put_number(counts.ranges as u64);
+            put_number(counts.comparators as u64);
+            put_number(counts.identifiers as u64);
+            put(b"\n");
+        }
+        Reading::TooLong => put(b" 0 0 0\n"),
+        Reading::NoReading => put(b" 0 0 0\n"),
+        Reading::TooLarge => put(b" 0 0 0\n"),
+        Reading::Over => put(b" 0 0 0\n"),
+        Reading::ComparatorsShort => put(b" 0 0 0\n"),
+        Reading::IdentifiersShort => put(b" 0 0 0\n"),
+    }
+}
+
+// One reading, and then all lent words.
+fn show_in(text: &[u8], compat: Compat, words: &mut [u64], ids: &mut [u64]) {
+    put_mode(compat);
+    put_answer(read(text, compat, words, ids));
+    put(b"  comparators");
+    put_words(words);
+    put(b"  identifiers");
+    put_words(ids);
+}
+
+// A text under both modes, with room for four comparators, three words more, and for two identifiers, one word more; all words hold 7 before.
+fn show(text: &[u8]) {
+    let mut words = [7u64; 27];
+    let mut ids = [7u64; 7];
+    put(text);
+    put(b"\n");
+    show_in(text, Compat::Cargo, &mut words, &mut ids);
+    let mut more = [7u64; 27];
+    let mut others = [7u64; 7];
+    show_in(text, Compat::Npm, &mut more, &mut others);
+}
+
+// A text that needs twelve words and six: with a word less for both, for comparators, for identifiers, and with just those.
+fn show_room(text: &[u8]) {
+    put(text);
+    put(b"\n");
+    show_in(text, Compat::Npm, &mut [7u64; 11], &mut [7u64; 5]);
+    show_in(text, Compat::Npm, &mut [7u64; 11], &mut [7u64; 6]);
+    show_in(text, Compat::Npm, &mut [7u64; 12], &mut [7u64; 5]);
+    show_in(text, Compat::Npm, &mut [7u64; 12], &mut [7u64; 6]);
+}
+
+// A long text by its name, and only its counts.
+fn count(name: &[u8], text: &[u8]) {
+    let mut words = [7u64; 393216];
+    let mut ids = [7u64; 98304];
+    put(name);
+    put_mode(Compat::Npm);
+    put_answer(read(text, Compat::Npm, &mut words, &mut ids));
+}
+
+fn blanks() {
+    let text = [b' '; 65536];
+    let all: &[u8] = &text;
+    count(b"65535 blanks", &all[1..]);
+    count(b"65536 blanks", all);
+}
+
+fn separators() {
+    count(b"32767 separators", &[b'|'; 65534]);
+}
+
+fn digits() {
+    count(b"60000 digits", &[b'1'; 60000]);
+}
+
+// Every second byte from the first on.
+fn every_second(text: &mut [u8], b: u8) {
+    let mut i = 0;
+    while i < text.len() {
+        text[i] = b;
+        i += 2;
+    }
+}
+
+fn items() {
+    let mut text = [b' '; 65535];
+    every_second(&mut text, b'1');
+    count(b"32768 items", &text);
+}
+
+// The text begins with a version and the sign of a qualifier.
+fn qualified(text: &mut [u8]) {
+    if text.len() < 6 {
+        return;
+    }
+    text[0] = b'1';
+    text[1] = b'.';
+    text[2] = b'2';
+    text[3] = b'.';
+    text[4] = b'3';
+    text[5] = b'-';
+}
+
+fn one_identifier() {
+    let mut text = [b'a'; 65535];
+    qualified(&mut text);
+    count(b"1 identifier of 65529 bytes", &text);
+}
+
+fn identifiers() {
+    let mut text = [b'.'; 65535];
+    every_second(&mut text, b'a');
+    qualified(&mut text);
+    count(b"32765 identifiers", &text);
+}
+
+fn main() {
+    show(b"1, 2");
+    show(b"1 , 2");
+    show(b"1,");
+    show(b"=18446744073709551615.0.0");
+    show(b"1.0.0 - 18446744073709551615");
+    show(b"18446744073709551615 18446744073709551616");
+    show(b"18446744073709551616 !");
+    show(b"18446744073709551615.0.0");
+    show(b">=1.2, <2 || 1.0.x");
+    show(b"=1.2.3-beta.2");
+    show_room(b"=1.2.3-beta.2 =1.2.3");
+    blanks();
+    separators();
+    digits();
+    items();
+    one_identifier();
+    identifiers();
+}

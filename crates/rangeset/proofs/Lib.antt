@@ -1,0 +1,8 @@
+pub mod Measuring
+pub mod Writing
+pub mod Qualified
+pub mod Names
+pub mod Words
+pub mod Putting
+pub mod Bytes
+pub mod Outcomes

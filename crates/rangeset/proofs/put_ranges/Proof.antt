@@ -1,0 +1,35 @@
+use Rattle.rangeset.proofs.Putting.{Putting, putting}
+use Rattle.rangeset.proofs.Measuring.{ahead}
+use Rattle.range.specs.Views.{compatOf}
+use borrow.Author.Needs.{needs}
+use Rattle.rangeset.proofs.put_ranges.Statement.{statement}
+use Rattle.rangeset.proofs.put_ranges.Tie as tie
+
+abbrev Inv-loop : tie.InvT-loop
+Inv-loop s compat words₀ ids₀ range₀ at₀ to₀ stage₀ left₀ words ids range at to stage left = Putting (compatOf compat) s words₀ ids₀ words ids range at to stage left
+
+abbrev μ-loop : tie.MeasureT-loop
+μ-loop s compat words₀ ids₀ range₀ at₀ to₀ stage₀ left₀ words ids range at to stage left = ahead stage left
+
+pub put-ranges-spec : {M : Type 1} → statement M
+put-ranges-spec =
+    tie.close
+    (tie.spec
+    Inv-loop
+    μ-loop
+    (λ c. search (putting, needs))
+    (λ c κs. search (putting, needs))
+    (λ c. search (putting, needs))
+    (λ c. search (putting, needs))
+    (λ c. search (putting, needs))
+    (λ c. search (putting, needs))
+    (λ c κs. search (putting, needs))
+    (λ c κs. search (putting, needs))
+    (λ c κs. search (putting, needs))
+    (λ c κs. search (putting, needs))
+    (λ c. search (putting, needs))
+    (λ c. search (putting, needs))
+    (λ c. search (putting, needs))
+    (λ c. search (putting, needs))
+    (λ c. search (putting, needs))
+    (λ c. search (putting, needs)))

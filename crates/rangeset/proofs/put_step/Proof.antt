@@ -1,0 +1,18 @@
+use Rattle.rangeset.proofs.Writing.{stepping}
+use borrow.Author.Needs.{needs}
+use Rattle.rangeset.proofs.put_step.Statement.{statement}
+use Rattle.rangeset.proofs.put_step.Tie as tie
+
+pub put-step-spec : {M : Type 1} → statement M
+put-step-spec =
+    tie.close
+    (tie.spec
+    (λ c κs. search (stepping, needs))
+    (λ c. search (stepping, needs))
+    (λ c. search (stepping, needs))
+    (λ c. search (stepping, needs))
+    (λ c. search (stepping, needs))
+    (λ c κs. search (stepping, needs))
+    (λ c. search (stepping, needs))
+    (λ c. search (stepping, needs))
+    (λ c. search (stepping, needs)))

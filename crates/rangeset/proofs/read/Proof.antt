@@ -1,0 +1,20 @@
+use Rattle.rangeset.proofs.Outcomes.{outcomes, writable}
+use borrow.Author.Needs.{needs}
+use Rattle.rangeset.proofs.read.Statement.{statement}
+use Rattle.rangeset.proofs.read.Tie as tie
+
+pub read-spec : {M : Type 1} → statement M
+read-spec =
+    tie.close
+    (tie.spec
+    (λ c. search (outcomes, needs))
+    (λ c κs. search (outcomes, needs))
+    (λ c. search (outcomes, needs))
+    (λ c. search (outcomes, needs))
+    (λ c. search (outcomes, needs))
+    (λ c. search (outcomes, needs))
+    (λ c. search (outcomes, needs))
+    (λ c κs. writable _ _ _ _ (c .before .before .before .before .before .before .before .before .before .before .measure .result) (search needs) (search needs) (search needs) (search needs) (search needs) (search needs) (search needs))
+    (λ c. search (outcomes, needs))
+    (λ c. search (outcomes, needs))
+    (λ c. search (outcomes, needs)))
