@@ -1,5 +1,5 @@
 // 01's "other edges", read and printed. A line for each reading: the text, the mode, 01's number, and the counts of ranges, comparator rows and
-// identifier rows; under an accepted text its rows.
+// identifier rows; under it all lent words, whether the text is accepted or refused. A long text stands by its name, without the words.
 use range::Compat;
 use rangeset::Reading;
 use rangeset::read;
@@ -20,19 +20,6 @@ fn put_mode(compat: Compat) {
     }
 }
 
-// 01's number.
-fn refusal(r: Reading) -> u64 {
-    match r {
-        Reading::Accepted(counts) => 0,
-        Reading::TooLong => 1,
-        Reading::NoReading => 2,
-        Reading::TooLarge => 3,
-        Reading::Over => 4,
-        Reading::ComparatorsShort => 5,
-        Reading::IdentifiersShort => 6,
-    }
-}
-
 fn put_words(words: &[u64]) {
     let mut i = 0;
     while i < words.len() {
@@ -44,20 +31,18 @@ fn put_words(words: &[u64]) {
 
 // 01's number and the three counts.
 fn put_answer(r: Reading) {
-    put_number(refusal(r));
     match r {
         Reading::Accepted(counts) => {
+            put_number(0);
             put_number(counts.ranges as u64);
             put_number(counts.comparators as u64);
             put_number(counts.identifiers as u64);
             put(b"\n");
         }
-        Reading::TooLong => put(b" 0 0 0\n"),
-        Reading::NoReading => put(b" 0 0 0\n"),
-        Reading::TooLarge => put(b" 0 0 0\n"),
-        Reading::Over => put(b" 0 0 0\n"),
-        Reading::ComparatorsShort => put(b" 0 0 0\n"),
-        Reading::IdentifiersShort => put(b" 0 0 0\n"),
+        Reading::Refused(refusal) => {
+            put_number(refusal.number());
+            put(b" 0 0 0\n");
+        }
     }
 }
 

@@ -1,6 +1,5 @@
 pub mod Measuring
 pub mod Writing
-pub mod Qualified
 pub mod Names
 pub mod Words
 pub mod Putting

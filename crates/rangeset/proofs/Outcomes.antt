@@ -1,105 +1,50 @@
--- The reading call by the code's tests on the tally: a law for each way out, for the answer and for both lent slices.
+-- The counts of a reading by the code's tests on the tally, and the reading call by its tests on the counts: a law for each way out.
 -- Assumes nothing.
-use Prim.Native.Nat.{ℕ, _/_, _*_, _<_, _≤_}
+use Prim.Native.Nat.{ℕ, _/_, _<_, _≤_}
 use mathlib.Core.Path.{_≡_, refl, sym, ap, _∙_}
-use mathlib.Core.List.{List, map}
+use mathlib.Core.List.{List}
 use mathlib.Core.Bool.{true, false, not}
 use native.Mathlib.Omega.{arith}
 use lib.ListN.{length}
 use borrow.Author.Tests.{not-true, not-false}
 use Rattle.rules.specs.Syntax.{Range}
 use Rattle.rules.specs.Parse.{Result, fail, ok, readText}
-use Rattle.rules.specs.Expansion.{Compat, Reading, expand, expandRange}
-use Rattle.rules.specs.Answers.{Answer, accepted, refused, longest, readingCall, Outcome, readingOutcome, written, comparatorWordsAfter, identifierWordsAfter}
-use Rattle.rules.specs.Walk.{walkOf, walkWords, walkNames}
-use Rattle.rules.proofs.ReadingCall.{tallied, call-1, call-2, call-3, call-4, call-5, call-6, call-accepts, call-counts}
-use Rattle.rules.proofs.WalkWords.{expand-words, expand-names-words}
-use Rattle.rows.specs.Put.{onto}
-use Rattle.rangeset.specs.Views.{counted, tallyOf, Writable, rangesOf, outcomeOf}
+use Rattle.rules.specs.Expansion as E
+use Rattle.rules.specs.Expansion.{Compat}
+use Rattle.rules.specs.Answers.{Answer, accepted, refused, longest, reading, comparatorRows, identifierRows, readingCall, readingOutcome, written, comparatorWordsAfter, identifierWordsAfter}
+use Rattle.rules.specs.Walk.{walkOf}
+use Rattle.rules.proofs.Accepted as A
+use Rattle.rules.proofs.Accepted.{Decided, decided}
+use Rattle.rules.proofs.ReadingCall.{tallied, reading-1, reading-2, reading-3, reading-4, reading-accepts, call-refused, call-5, call-6, call-accepts, call-counts}
+use Rattle.rangeset.specs.Views.{counted, tallyOf, Writable, numberOf, outcomeOf}
 use Rattle.rangeset.specs.declared.Tally.{Tally}
+use Rattle.rangeset.specs.declared.Counts.{Counts}
+use Rattle.rangeset.specs.declared.Refusal.{Refusal}
+use Rattle.rangeset.specs.declared.Refusal.the-variants as Refusals
+use Rattle.rangeset.specs.declared.Reading.{Reading}
 use Rattle.rangeset.specs.declared.Reading.the-variants as R
 
--- ---- what an answer hands back
+outcome-refused : (a : Answer E.Reading) (w : Refusal) → a ≡ refused (numberOf w) → outcomeOf (R.Refused w) ≡ readingOutcome a
+unfolding readingOutcome
+outcome-refused a w e = rw e refl
 
-abbrev refusal : ℕ → Outcome
-refusal n = record { refusal = n; ranges = 0; comparators = 0; identifiers = 0 }
+-- ---- count
 
-module _ (a : Answer Reading) (n : ℕ) (e : a ≡ refused n) where
-  outcome-refused : refusal n ≡ readingOutcome a
-  unfolding readingOutcome
-  outcome-refused = rw e refl
-
-  words-refused : (old : List ℕ) → old ≡ comparatorWordsAfter a old
-  unfolding comparatorWordsAfter written
-  words-refused old = rw e refl
-
-  names-refused : (s old : List ℕ) → old ≡ identifierWordsAfter s a old
-  unfolding identifierWordsAfter written
-  names-refused s old = rw e refl
-
-module _ (m : Compat) (a : Answer Reading) (rs : List Range) (e : a ≡ accepted (expand m rs)) where
-  outcome-accepted : record { refusal = 0; ranges = tallied m rs .ranges; comparators = tallied m rs .rows; identifiers = tallied m rs .names } ≡ readingOutcome a
-  outcome-accepted = sym (call-counts m rs) ∙ ap readingOutcome (sym e)
-
-  words-accepted : (old : List ℕ) → onto (walkWords 0 (map (expandRange m) rs)) old ≡ comparatorWordsAfter a old
-  unfolding comparatorWordsAfter written
-  words-accepted old = rw (e, expand-words m rs) refl
-
-  names-accepted : (s old : List ℕ) → onto (walkNames (length s) (map (expandRange m) rs)) old ≡ identifierWordsAfter s a old
-  unfolding identifierWordsAfter written
-  names-accepted s old = rw (e, expand-names-words m (length s) rs) refl
-
--- ---- the ways out of the call
-
-apart : true ≡ false → ⊥
-apart e = let y : _≡_ {A = ℕ} 0 1 = cc in omega arith
-
-module _ (m : Compat) (s w i : List ℕ) where
-  abbrev answer : Answer Reading
-  answer = readingCall m s (length w) (length i)
-
-  -- what a refusal says of the result, of the comparator words and of the identifier words
-  record Refused (n : ℕ) : Type 0 where
-    pub result : refusal n ≡ readingOutcome answer
-    pub words : w ≡ comparatorWordsAfter answer w
-    pub names : i ≡ identifierWordsAfter s answer i
-
-  refuse : (n : ℕ) → answer ≡ refused n → Refused n
-  refuse n e = record { result = outcome-refused answer n e; words = words-refused answer n e w; names = names-refused answer n e s i }
-
-  module _ (h : longest < length s) where
-    pub long-result : outcomeOf R.TooLong ≡ readingOutcome answer
-    long-result = refuse 1 (call-1 m s (length w) (length i) h) .result
-
-    pub long-words : w ≡ comparatorWordsAfter answer w
-    long-words = refuse 1 (call-1 m s (length w) (length i) h) .words
-
-    pub long-names : i ≡ identifierWordsAfter s answer i
-    long-names = refuse 1 (call-1 m s (length w) (length i) h) .names
+module _ (m : Compat) (s : List ℕ) where
+  pub count-long : longest < length s → outcomeOf (R.Refused Refusals.TooLong) ≡ readingOutcome (reading m s)
+  count-long h = outcome-refused (reading m s) Refusals.TooLong (reading-1 m s h)
 
   module _ (t : Tally) (e : t ≡ tallyOf (walkOf m (readText s))) (h : length s ≤ longest) where
-    -- ---- no reading
-
-    unread : t .found ≡ false → Refused 2
+    pub count-unread : not (t .found) ≡ true → outcomeOf (R.Refused Refusals.NoReading) ≡ readingOutcome (reading m s)
     unfolding tallyOf
-    unread f = go (readText s) refl
+    count-unread f = outcome-refused (reading m s) Refusals.NoReading (reading-2 m s h (go (readText s) refl))
       where
-        go : (x : Result (List Range)) → readText s ≡ x → Refused 2
-        go fail k = refuse 2 (call-2 m s (length w) (length i) h k)
-        go (ok rs r) k = absurd (apart (rw k at (ap (λ x. x .found) (sym e) ∙ f)))
+        go : (x : Result (List Range)) → readText s ≡ x → x ≡ fail
+        go fail k = refl
+        go (ok rs r) k =
+            let z : true ≡ false = ap (λ x. tallyOf (walkOf m x) .found) (sym k) ∙ ap (λ x. x .found) (sym e) ∙ not-true (t .found) f in cc
 
-    module _ (f : not (t .found) ≡ true) where
-      pub unread-result : outcomeOf R.NoReading ≡ readingOutcome answer
-      unread-result = unread (not-true (t .found) f) .result
-
-      pub unread-words : w ≡ comparatorWordsAfter answer w
-      unread-words = unread (not-true (t .found) f) .words
-
-      pub unread-names : i ≡ identifierWordsAfter s answer i
-      unread-names = unread (not-true (t .found) f) .names
-
-    -- ---- a reading
-
+    -- the ranges that were counted
     record Found : Type 0 where
       pub ranges : List Range
       pub rest : List ℕ
@@ -111,124 +56,168 @@ module _ (m : Compat) (s w i : List ℕ) where
     find f = go (readText s) refl
       where
         go : (x : Result (List Range)) → readText s ≡ x → Found
-        go fail k = absurd (apart (sym (rw k at (ap (λ x. x .found) (sym e) ∙ f))))
+        go fail k =
+            let z : false ≡ true = ap (λ x. tallyOf (walkOf m x) .found) (sym k) ∙ ap (λ x. x .found) (sym e) ∙ f in
+            let y : _≡_ {A = ℕ} 0 1 = cc in absurd (omega arith)
         go (ok rs r) k = record { ranges = rs; rest = r; reads = k; tallies = e ∙ ap (λ x. tallyOf (walkOf m x)) k }
 
     module _ (f : not (t .found) ≡ false) where
-      abbrev rs : List Range
-      rs = find (not-false (t .found) f) .ranges
+      found : Found
+      found = find (not-false (t .found) f)
 
-      abbrev rest : List ℕ
-      rest = find (not-false (t .found) f) .rest
+      large-is : tallied m (found .ranges) .large ≡ t .large
+      large-is = ap (λ x. x .large) (sym (found .tallies))
 
-      is : readText s ≡ ok rs rest
-      is = find (not-false (t .found) f) .reads
+      over-is : tallied m (found .ranges) .over ≡ t .over
+      over-is = ap (λ x. x .over) (sym (found .tallies))
 
-      tallies : t ≡ counted (tallied m rs)
-      tallies = find (not-false (t .found) f) .tallies
-
-      -- what a field of the tally is
-      field : {A : Type 0} (g : Tally → A) {a : A} → g t ≡ a → g (counted (tallied m rs)) ≡ a
-      field g q = ap g (sym tallies) ∙ q
-
-      module _ (l : t .large ≡ true) where
-        large : Refused 3
-        large = refuse 3 (call-3 m s (length w) (length i) h rs rest is (field (λ x. x .large) l))
-
-        pub large-result : outcomeOf R.TooLarge ≡ readingOutcome answer
-        large-result = large .result
-
-        pub large-words : w ≡ comparatorWordsAfter answer w
-        large-words = large .words
-
-        pub large-names : i ≡ identifierWordsAfter s answer i
-        large-names = large .names
+      pub count-large : t .large ≡ true → outcomeOf (R.Refused Refusals.TooLarge) ≡ readingOutcome (reading m s)
+      count-large l = outcome-refused (reading m s) Refusals.TooLarge (reading-3 m s h (found .ranges) (found .rest) (found .reads) (large-is ∙ l))
 
       module _ (l : t .large ≡ false) where
-        no-large : tallied m rs .large ≡ false
-        no-large = field (λ x. x .large) l
+        pub count-over : t .over ≡ true → outcomeOf (R.Refused Refusals.Over) ≡ readingOutcome (reading m s)
+        count-over o = outcome-refused (reading m s) Refusals.Over (reading-4 m s h (found .ranges) (found .rest) (found .reads) (large-is ∙ l) (over-is ∙ o))
 
-        module _ (o : t .over ≡ true) where
-          over : Refused 4
-          over = refuse 4 (call-4 m s (length w) (length i) h rs rest is no-large (field (λ x. x .over) o))
+        pub count-accepts : t .over ≡ false
+            → outcomeOf (R.Accepted (record { ranges = t .ranges; comparators = t .comparators; identifiers = t .identifiers })) ≡ readingOutcome (reading m s)
+        count-accepts o =
+            ap (λ y. outcomeOf (R.Accepted (record { ranges = y .ranges; comparators = y .comparators; identifiers = y .identifiers }))) (found .tallies)
+            ∙ sym (call-counts m (found .ranges))
+            ∙ ap readingOutcome (sym (reading-accepts m s h (found .ranges) (found .rest) (found .reads) (large-is ∙ l) (over-is ∙ o)))
 
-          pub over-result : outcomeOf R.Over ≡ readingOutcome answer
-          over-result = over .result
+pub ruleset counting = (count-long, count-unread, count-large, count-over, count-accepts)
 
-          pub over-words : w ≡ comparatorWordsAfter answer w
-          over-words = over .words
+-- ---- what the counts say of the reading
 
-          pub over-names : i ≡ identifierWordsAfter s answer i
-          over-names = over .names
+-- an accepted text has these counts
+pub record Counted (m : Compat) (s : List ℕ) (c : Counts) : Type 0 where
+  pub reads : E.Reading
+  pub is : reading m s ≡ accepted reads
+  pub comparators : c .comparators ≡ comparatorRows reads
+  pub identifiers : c .identifiers ≡ identifierRows reads
 
-        module _ (o : t .over ≡ false) where
-          no-over : tallied m rs .over ≡ false
-          no-over = field (λ x. x .over) o
+-- no refusal has the number 0
+pub reading-number : (m : Compat) (s : List ℕ) (n : ℕ) → reading m s ≡ refused n → n ≡ 0 → ⊥
+reading-number m s n q = go (rw q at (decided m s))
+  where
+    go : {n : ℕ} → Decided m s (refused n) → n ≡ 0 → ⊥
+    go (A.long h) e = omega arith
+    go (A.underivable l u) e = omega arith
+    go (A.large l d f) e = omega arith
+    go (A.raised l d f g) e = omega arith
 
-          module _ (k : length w / 6 < t .rows) where
-            rows : Refused 5
-            rows = refuse 5 (call-5 m s (length w) (length i) h rs rest is no-large no-over (rw tallies at k))
+pub refusal-number : (w : Refusal) → numberOf w ≡ 0 → ⊥
+refusal-number Refusals.TooLong e = omega arith
+refusal-number Refusals.NoReading e = omega arith
+refusal-number Refusals.TooLarge e = omega arith
+refusal-number Refusals.Over e = omega arith
+refusal-number Refusals.ComparatorsShort e = omega arith
+refusal-number Refusals.IdentifiersShort e = omega arith
+refusal-number Refusals.BytesShort e = omega arith
 
-            pub rows-result : outcomeOf R.ComparatorsShort ≡ readingOutcome answer
-            rows-result = rows .result
+pub counted-reading : (m : Compat) (s : List ℕ) (c : Counts) → outcomeOf (R.Accepted c) ≡ readingOutcome (reading m s) → Counted m s c
+unfolding readingOutcome
+counted-reading m s c e = go (reading m s) refl
+  where
+    go : (a : Answer E.Reading) → reading m s ≡ a → Counted m s c
+    go (accepted rs) q =
+        record {
+          reads = rs;
+          is = q;
+          comparators = ap (λ x. x .comparators) (e ∙ ap readingOutcome q);
+          identifiers = ap (λ x. x .identifiers) (e ∙ ap readingOutcome q);
+        }
+    go (refused n) q = absurd (reading-number m s n q (sym (ap (λ x. x .refusal) (e ∙ ap readingOutcome q))))
 
-            pub rows-words : w ≡ comparatorWordsAfter answer w
-            rows-words = rows .words
+pub refused-reading : (m : Compat) (s : List ℕ) (w : Refusal) → outcomeOf (R.Refused w) ≡ readingOutcome (reading m s) → reading m s ≡ refused (numberOf w)
+unfolding readingOutcome
+refused-reading m s w e = go (reading m s) refl
+  where
+    go : (a : Answer E.Reading) → reading m s ≡ a → reading m s ≡ refused (numberOf w)
+    go (accepted rs) q = absurd (refusal-number w (ap (λ x. x .refusal) (e ∙ ap readingOutcome q)))
+    go (refused n) q = q ∙ ap refused (sym (ap (λ x. x .refusal) (e ∙ ap readingOutcome q)))
 
-            pub rows-names : i ≡ identifierWordsAfter s answer i
-            rows-names = rows .names
+-- ---- read
 
-          module _ (k : t .rows ≤ length w / 6) where
-            fit : tallied m rs .rows ≤ length w / 6
-            fit = rw tallies at k
+module _ (m : Compat) (s w i : List ℕ) where
+  abbrev answer : Answer E.Reading
+  answer = readingCall m s (length w) (length i)
 
-            module _ (j : length i / 3 < t .names) where
-              identifiers : Refused 6
-              identifiers = refuse 6 (call-6 m s (length w) (length i) h rs rest is no-large no-over fit (rw tallies at j))
+  words-refused : (n : ℕ) → answer ≡ refused n → w ≡ comparatorWordsAfter answer w
+  unfolding comparatorWordsAfter written
+  words-refused n e = rw e refl
 
-              pub identifiers-result : outcomeOf R.IdentifiersShort ≡ readingOutcome answer
-              identifiers-result = identifiers .result
+  ids-refused : (n : ℕ) → answer ≡ refused n → i ≡ identifierWordsAfter s answer i
+  unfolding identifierWordsAfter written
+  ids-refused n e = rw e refl
 
-              pub identifiers-words : w ≡ comparatorWordsAfter answer w
-              identifiers-words = identifiers .words
+  module _ (r : Reading) (e : outcomeOf r ≡ readingOutcome (reading m s)) where
+    -- none is accepted
+    module _ (y : Refusal) (q : r ≡ R.Refused y) where
+      refuses : answer ≡ refused (numberOf y)
+      refuses = call-refused m s (length w) (length i) (numberOf y) (refused-reading m s y (ap outcomeOf (sym q) ∙ e))
 
-              pub identifiers-names : i ≡ identifierWordsAfter s answer i
-              identifiers-names = identifiers .names
+      pub refuses-result : outcomeOf r ≡ readingOutcome answer
+      refuses-result = ap outcomeOf q ∙ outcome-refused answer y refuses
 
-            module _ (j : t .names ≤ length i / 3) where
-              whole : answer ≡ accepted (expand m rs)
-              whole = call-accepts m s (length w) (length i) h rs rest is no-large no-over fit (rw tallies at j)
+      pub refuses-words : w ≡ comparatorWordsAfter answer w
+      refuses-words = words-refused (numberOf y) refuses
 
-              of-ranges : rangesOf (walkOf m (readText s)) ≡ map (expandRange m) rs
-              of-ranges = ap (λ x. rangesOf (walkOf m x)) is
+      pub refuses-ids : i ≡ identifierWordsAfter s answer i
+      refuses-ids = ids-refused (numberOf y) refuses
 
-              pub accepted-result : outcomeOf (R.Accepted (record { ranges = t .ranges; comparators = t .rows; identifiers = t .names })) ≡ readingOutcome answer
-              accepted-result = rw tallies (outcome-accepted m answer rs whole)
+    module _ (c : Counts) (q : r ≡ R.Accepted c) where
+      has : Counted m s c
+      has = counted-reading m s c (ap outcomeOf (sym q) ∙ e)
 
-              pub accepted-words : (x : List ℕ) → x ≡ onto (walkWords 0 (rangesOf (walkOf m (readText s)))) w → x ≡ comparatorWordsAfter answer w
-              accepted-words x q = q ∙ ap (λ r. onto (walkWords 0 r) w) of-ranges ∙ words-accepted m answer rs whole w
+      module _ (k : length w / 6 < c .comparators) where
+        short-comparators : answer ≡ refused 5
+        short-comparators = call-5 m s (length w) (length i) (has .reads) (has .is) (rw (has .comparators) at k)
 
-              pub accepted-names : (x : List ℕ) → x ≡ onto (walkNames (length s) (rangesOf (walkOf m (readText s)))) i → x ≡ identifierWordsAfter s answer i
-              accepted-names x q = q ∙ ap (λ r. onto (walkNames (length s) r) i) of-ranges ∙ names-accepted m answer rs whole s i
+        pub comparators-result : outcomeOf (R.Refused Refusals.ComparatorsShort) ≡ readingOutcome answer
+        comparators-result = outcome-refused answer Refusals.ComparatorsShort short-comparators
 
--- ---- what the writer of the rows requires
+        pub comparators-words : w ≡ comparatorWordsAfter answer w
+        comparators-words = words-refused 5 short-comparators
 
-module _ (m : Compat) (s : List ℕ) (w i : ℕ) (t : Tally) (e : t ≡ tallyOf (walkOf m (readText s))) where
-  abbrev measured : Tally
-  measured = tallyOf (walkOf m (readText s))
+        pub comparators-ids : i ≡ identifierWordsAfter s answer i
+        comparators-ids = ids-refused 5 short-comparators
 
-  found-there : not (t .found) ≡ false → measured .found ≡ true
-  found-there f = not-false (measured .found) (rw e at f)
+      module _ (k : c .comparators ≤ length w / 6) where
+        module _ (j : length i / 3 < c .identifiers) where
+          short-identifiers : answer ≡ refused 6
+          short-identifiers = call-6 m s (length w) (length i) (has .reads) (has .is) (rw (has .comparators) at k) (rw (has .identifiers) at j)
 
-  rows-room : t .rows ≤ w / 6 → 6 * measured .rows ≤ w
-  rows-room h = let g : measured .rows ≤ w / 6 = rw e at h in omega (arith, g)
+          pub identifiers-result : outcomeOf (R.Refused Refusals.IdentifiersShort) ≡ readingOutcome answer
+          identifiers-result = outcome-refused answer Refusals.IdentifiersShort short-identifiers
 
-  names-room : t .names ≤ i / 3 → 3 * measured .names ≤ i
-  names-room h = let g : measured .names ≤ i / 3 = rw e at h in omega (arith, g)
+          pub identifiers-words : w ≡ comparatorWordsAfter answer w
+          identifiers-words = words-refused 6 short-identifiers
 
-  pub writable : length s ≤ longest → not (t .found) ≡ false → t .large ≡ false → t .over ≡ false → t .rows ≤ w / 6 → t .names ≤ i / 3 → Writable m s w i
-  writable h f l o k j =
-      record { short = h; found = found-there f; fits = rw e at l; raises = rw e at o; room = rows-room k; space = names-room j }
+          pub identifiers-ids : i ≡ identifierWordsAfter s answer i
+          identifiers-ids = ids-refused 6 short-identifiers
+
+        module _ (j : c .identifiers ≤ length i / 3) where
+          pub writable : Writable m s (length w) (length i)
+          writable =
+              record {
+                reads = has .reads;
+                is = has .is;
+                room = let a = has .comparators in omega arith;
+                space = let a = has .identifiers in omega arith;
+              }
+
+          whole : reading m s ≡ answer
+          whole = has .is ∙ sym (call-accepts m s (length w) (length i) (has .reads) (has .is) (rw (has .comparators) at k) (rw (has .identifiers) at j))
+
+          pub accepts-result : outcomeOf (R.Accepted c) ≡ readingOutcome answer
+          accepts-result = ap outcomeOf (sym q) ∙ e ∙ ap readingOutcome whole
+
+          pub accepts-words : (x : List ℕ) → x ≡ comparatorWordsAfter (reading m s) w → x ≡ comparatorWordsAfter answer w
+          accepts-words x p = p ∙ ap (λ a. comparatorWordsAfter a w) whole
+
+          pub accepts-ids : (x : List ℕ) → x ≡ identifierWordsAfter s (reading m s) i → x ≡ identifierWordsAfter s answer i
+          accepts-ids x p = p ∙ ap (λ a. identifierWordsAfter s a i) whole
 
 pub ruleset outcomes =
-    (long-result, long-words, long-names, unread-result, unread-words, unread-names, large-result, large-words, large-names, over-result, over-words, over-names, rows-result, rows-words, rows-names, identifiers-result, identifiers-words, identifiers-names, accepted-result, accepted-words, accepted-names)
+    (refuses-result, refuses-words, refuses-ids, comparators-result, comparators-words, comparators-ids, identifiers-result, identifiers-words, identifiers-ids, writable, accepts-result, accepts-words, accepts-ids)

@@ -1,17 +1,13 @@
--- The writers of a piece's rows: a law for each of their ways.
+-- The writers of a step's rows: a law for each of their ways.
 -- Assumes nothing.
-use Prim.Native.Nat.{ℕ, _+_, _-_, _<_, _≤_}
+use Prim.Native.Nat.{ℕ, _+_, _-_, _≤_}
 use mathlib.Core.Path.{_≡_, refl, sym, ap, _∙_}
-use mathlib.Core.List.{List, [], _∷_, _++_}
-use mathlib.Core.Bool.{Bool, true, false}
+use mathlib.Core.List.{List, []}
 use native.Mathlib.Omega.{arith}
-use mir.Val.{Fits}
-use mir.Syntax.{w64}
 use lib.ListN.{length, take, drop, length-append, length-take, length-drop}
 use borrow.Rule.Slice.PartMut.{putMid}
 use Rattle.partial.specs.declared.Op.{Op}
 use Rattle.partial.specs.declared.Comparator.{Comparator}
-use Rattle.range.specs.declared.Kept.{Kept}
 use Rattle.range.specs.declared.Kept.the-variants as Kept
 use Rattle.range.specs.declared.Raised.{Raised}
 use Rattle.range.specs.declared.Raised.the-variants as Raised
@@ -19,7 +15,8 @@ use Rattle.walk.specs.declared.Step.{Step}
 use Rattle.rows.specs.Put.{Put}
 use Rattle.rows.specs.Views.{comparatorWords}
 use Rattle.rows.proofs.Puts.{put-then, put-part, put-same}
-use Rattle.rangeset.specs.Views.{raisedRows, keptIn, below, raisedTo, raisedIn, stepWords, raisedFrom, Raisable}
+use Rattle.passes.specs.Views.{raisedCount, keptWith, raisedTo}
+use Rattle.rangeset.specs.Views.{keptIn, raisedIn, stepComparatorWords}
 
 -- nothing is written
 pub put-nothing : (l : List ℕ) → Put l 0 [] l 0
@@ -32,54 +29,24 @@ module _ (l : List ℕ) (k : ℕ) (x : Step) where
     pub kept-room : length (keptIn k (x .kept) x) ≤ length l → 6 ≤ length l
     kept-room h = rw e at h
 
-    pub kept-put : (m : List ℕ) → Put l 0 (comparatorWords k (record { op = o; major = x .major; minor = x .minor; patch = x .patch; count = x .count; over = false })) m 6
-        → Put l 0 (keptIn k (x .kept) x) m 6
-    kept-put m p = rw e p
+    pub kept-put : (c : Comparator) → c ≡ keptWith o x → (m : List ℕ) → Put l 0 (comparatorWords k c) m 6 → Put l 0 (keptIn k (x .kept) x) m 6
+    kept-put c i m p = rw e (rw i at p)
 
   pub kept-none : x .kept ≡ Kept.Nothing → Put l 0 (keptIn k (x .kept) x) l 0
   kept-none e = rw e (put-nothing l)
 
 pub ruleset keeping = (kept-room, kept-put, kept-none)
 
--- ---- raised_to
-
-module _ (x : Step) where
-  module _ (e : x .raised ≡ Raised.Major) where
-    pub major-fits : Raisable (x .raised) x → Fits w64 (x .major + 1)
-    major-fits h = let f : x .major < 18446744073709551615 = rw e at h in omega arith
-
-    pub major-raised : below (x .major + 1) 0 0 ≡ raisedTo (x .raised) x
-    major-raised = rw e refl
-
-  module _ (e : x .raised ≡ Raised.Minor) where
-    pub minor-fits : Raisable (x .raised) x → Fits w64 (x .minor + 1)
-    minor-fits h = let f : x .minor < 18446744073709551615 = rw e at h in omega arith
-
-    pub minor-raised : below (x .major) (x .minor + 1) 0 ≡ raisedTo (x .raised) x
-    minor-raised = rw e refl
-
-  module _ (e : x .raised ≡ Raised.Patch) where
-    pub patch-fits : Raisable (x .raised) x → Fits w64 (x .patch + 1)
-    patch-fits h = let f : x .patch < 18446744073709551615 = rw e at h in omega arith
-
-    pub patch-raised : below (x .major) (x .minor) (x .patch + 1) ≡ raisedTo (x .raised) x
-    patch-raised = rw e refl
-
-  pub none-raised : x .raised ≡ Raised.Nothing → below 0 0 0 ≡ raisedTo (x .raised) x
-  none-raised e = rw e refl
-
-pub ruleset raising = (major-fits, major-raised, minor-fits, minor-raised, patch-fits, patch-raised, none-raised)
-
 -- ---- put_raised
 
-module _ (l : List ℕ) (k : ℕ) (x : Step) (n : ℕ) (q : n ≡ raisedRows (x .raised)) where
-  row-none : (r : Raised) → raisedRows r ≡ 0 → raisedIn k r x ≡ []
+module _ (l : List ℕ) (k : ℕ) (x : Step) (n : ℕ) (q : n ≡ raisedCount (x .raised)) where
+  row-none : (r : Raised) → raisedCount r ≡ 0 → raisedIn k r x ≡ []
   row-none Raised.Major e = cc
   row-none Raised.Minor e = cc
   row-none Raised.Patch e = cc
   row-none Raised.Nothing e = refl
 
-  row-some : (r : Raised) → (raisedRows r ≡ 0 → ⊥) → raisedIn k r x ≡ comparatorWords k (raisedTo r x)
+  row-some : (r : Raised) → (raisedCount r ≡ 0 → ⊥) → raisedIn k r x ≡ comparatorWords k (raisedTo r x)
   row-some Raised.Major e = refl
   row-some Raised.Minor e = refl
   row-some Raised.Patch e = refl
@@ -100,11 +67,11 @@ module _ (l : List ℕ) (k : ℕ) (x : Step) (n : ℕ) (q : n ≡ raisedRows (x 
 
 pub ruleset raisings = (raised-none, raised-room, raised-put)
 
--- ---- put_step
+-- ---- put_comparators
 
-module _ (l : List ℕ) (k : ℕ) (x : Step) (h : length (stepWords k x) ≤ length l) where
+module _ (l : List ℕ) (k : ℕ) (x : Step) (h : length (stepComparatorWords k x) ≤ length l) where
   both : length (keptIn k (x .kept) x) + length (raisedIn k (x .raised) x) ≤ length l
-  unfolding stepWords
+  unfolding stepComparatorWords
   both = omega (arith, h, length-append (keptIn k (x .kept) x) (raisedIn k (x .raised) x))
 
   pub step-kept : length (keptIn k (x .kept) x) ≤ length l
@@ -121,8 +88,8 @@ module _ (l : List ℕ) (k : ℕ) (x : Step) (h : length (stepWords k x) ≤ len
       pub step-fits : at + n ≤ length l
       step-fits = omega (arith, both, p .place, q .place)
 
-      pub step-put : Put l 0 (stepWords k x) (putMid at (length m - at) m y) (at + n)
-      unfolding stepWords
+      pub step-put : Put l 0 (stepComparatorWords k x) (putMid at (length m - at) m y) (at + n)
+      unfolding stepComparatorWords
       step-put = put-then p (put-part q)
 
 pub ruleset stepping = (step-kept, step-within, step-raised, step-fits, step-put)

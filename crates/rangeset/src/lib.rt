@@ -1,21 +1,23 @@
-// Range sets: `RangeSet::parse` of src/range_set.rs. Two passes over the text, each one loop over the steps of the walk: the measure counts,
-// then the rows are written.
+// Range sets: `RangeSet::parse` of src/range_set.rs. Two passes over the text: the measure counts, then the rows are written.
 ghost use mathlib.Core.Path.{_≡_};
 ghost use Rattle.rules.specs.Parse.{readText};
-ghost use Prim.Native.Nat.{_+_, _≤_, _*_};
-ghost use mathlib.Core.Bool.{true, false};
+ghost use Prim.Native.Nat.{_+_, _≤_};
 ghost use lib.ListN.{length};
-ghost use Rattle.rules.specs.Answers.{identifierBytes, longest, readingCall, readingOutcome, comparatorWordsAfter, identifierWordsAfter};
-ghost use Rattle.rules.specs.Walk.{goesOn, walkOf, walkWords, walkNames};
+ghost use Rattle.rules.specs.Answers.{identifierBytes, longest, reading, readingCall, readingOutcome, comparatorWordsAfter, identifierWordsAfter};
+ghost use Rattle.rules.specs.Walk.{walkOf};
 ghost use Rattle.range.specs.Views.{compatOf};
-ghost use Rattle.walk.specs.Views.{stageOf};
-ghost use Rattle.rows.specs.Put.{Put, onto};
-ghost use Rattle.rangeset.specs.Views.{isEnd, opened, keptRows, raisedRows, rowsOf, tallyOf, keptIn, raisedIn, raisedTo, stepWords, Raisable, Named, stepNames, Writable, rangesOf, outcomeOf};
-use partial::Comparator;
-use partial::Op;
+ghost use Rattle.rows.specs.Put.{Put};
+ghost use Rattle.passes.specs.Views.{Raisable, Signed};
+ghost use Rattle.rangeset.specs.Views.{tallyOf, keptIn, raisedIn, stepComparatorWords, stepIdentifierWords, Writable, numberOf, outcomeOf};
+use passes::comparator_count;
+use passes::goes_on;
+use passes::is_end;
+use passes::kept_with;
+use passes::opened;
+use passes::raised_count;
+use passes::raised_to;
 use range::Compat;
 use range::Kept;
-use range::Raised;
 use rows::put_comparator;
 use rows::put_identifiers;
 use walk::Stage;
@@ -24,97 +26,24 @@ use walk::next;
 
 // ---- the measure
 
-fn goes_on(stage: Stage) -> bool
-    ensures { λ r. ⌜ r ≡ goesOn (stageOf stage) ⌝ }
-{
-    match stage {
-        Stage::Item => true,
-        Stage::Range => true,
-        Stage::Right => true,
-        Stage::Only => true,
-        Stage::End => false,
-        Stage::Bad => false,
-    }
-}
-
-fn is_end(stage: Stage) -> bool
-    ensures { λ r. ⌜ r ≡ isEnd (stageOf stage) ⌝ }
-{
-    match stage {
-        Stage::Item => false,
-        Stage::Range => false,
-        Stage::Right => false,
-        Stage::Only => false,
-        Stage::End => true,
-        Stage::Bad => false,
-    }
-}
-
-// How many ranges a step at this stage begins.
-fn opened(stage: Stage) -> usize
-    ensures { λ r. ⌜ r ≡ opened (stageOf stage) ⌝ }
-    ensures small { λ r. ⌜ r ≤ 1 ⌝ }
-{
-    match stage {
-        Stage::Item => 0,
-        Stage::Range => 1,
-        Stage::Right => 0,
-        Stage::Only => 0,
-        Stage::End => 0,
-        Stage::Bad => 0,
-    }
-}
-
-fn kept_rows(kept: Kept) -> usize
-    ensures { λ r. ⌜ r ≡ keptRows kept ⌝ }
-    ensures small { λ r. ⌜ r ≤ 1 ⌝ }
-{
-    match kept {
-        Kept::Op(op) => 1,
-        Kept::Nothing => 0,
-    }
-}
-
-fn raised_rows(raised: Raised) -> usize
-    ensures { λ r. ⌜ r ≡ raisedRows raised ⌝ }
-    ensures small { λ r. ⌜ r ≤ 1 ⌝ }
-{
-    match raised {
-        Raised::Major => 1,
-        Raised::Minor => 1,
-        Raised::Patch => 1,
-        Raised::Nothing => 0,
-    }
-}
-
-// How many comparators a step's piece gives.
-fn rows_of(x: Step) -> usize
-    ensures { λ r. ⌜ r ≡ rowsOf (x .kept) (x .raised) ⌝ }
-    ensures small { λ r. ⌜ r ≤ 2 ⌝ }
-{
-    let kept = x.kept;
-    let raised = x.raised;
-    kept_rows(kept) + raised_rows(raised)
-}
-
-// How many ranges, comparator rows and identifier rows a text has, whether a component that is read is too large, and whether one cannot be
-// raised. Where the text has no reading, nothing of it is found.
+// How many ranges, comparators and identifiers a text has, whether a component that is read is too large, and whether one cannot be raised.
+// Where the text has no reading, nothing of it is found.
 pub struct Tally {
     pub found: bool,
     pub ranges: usize,
-    pub rows: usize,
-    pub names: usize,
+    pub comparators: usize,
+    pub identifiers: usize,
     pub large: bool,
     pub over: bool,
 }
 
-pub fn measure(s: &[u8], compat: Compat) -> Tally
+fn measure(s: &[u8], compat: Compat) -> Tally
     requires { ⌜ length (now s) ≤ longest ⌝ }
     ensures { λ r. ⌜ r ≡ tallyOf (walkOf (compatOf compat) (readText (now (s .entry)))) ⌝ }
 {
     let mut ranges = 0;
-    let mut rows = 0;
-    let mut names = 0;
+    let mut comparators = 0;
+    let mut identifiers = 0;
     let mut large = false;
     let mut over = false;
     let mut stage = Stage::Range;
@@ -123,8 +52,8 @@ pub fn measure(s: &[u8], compat: Compat) -> Tally
         let at = s.len() - left;
         let x = next(&s[at..], stage, compat);
         ranges += opened(stage);
-        rows += rows_of(x);
-        names += x.count;
+        comparators += comparator_count(x);
+        identifiers += x.count;
         large = large | x.large;
         over = over | x.over;
         stage = x.stage;
@@ -134,8 +63,8 @@ pub fn measure(s: &[u8], compat: Compat) -> Tally
         return Tally {
             found: true,
             ranges,
-            rows,
-            names,
+            comparators,
+            identifiers,
             large,
             over,
         };
@@ -143,14 +72,82 @@ pub fn measure(s: &[u8], compat: Compat) -> Tally
     Tally {
         found: false,
         ranges: 0,
-        rows: 0,
-        names: 0,
+        comparators: 0,
+        identifiers: 0,
         large: false,
         over: false,
     }
 }
 
-// ---- the rows of a piece
+// ---- the refusals
+
+// 01's refusals, in its order.
+pub enum Refusal {
+    TooLong,
+    NoReading,
+    TooLarge,
+    Over,
+    ComparatorsShort,
+    IdentifiersShort,
+    BytesShort,
+}
+
+impl Refusal {
+    // 01's number.
+    pub fn number(self) -> u64
+        ensures { λ r. ⌜ r ≡ numberOf self ⌝ }
+    {
+        match self {
+            Refusal::TooLong => 1,
+            Refusal::NoReading => 2,
+            Refusal::TooLarge => 3,
+            Refusal::Over => 4,
+            Refusal::ComparatorsShort => 5,
+            Refusal::IdentifiersShort => 6,
+            Refusal::BytesShort => 7,
+        }
+    }
+}
+
+// ---- the counts of a reading
+
+// How many ranges, comparator rows and identifier rows.
+pub struct Counts {
+    pub ranges: usize,
+    pub comparators: usize,
+    pub identifiers: usize,
+}
+
+pub enum Reading {
+    Accepted(Counts),
+    Refused(Refusal),
+}
+
+// What a text has, if none of 1 to 4 applies to it.
+pub fn count(s: &[u8], compat: Compat) -> Reading
+    ensures { λ r. ⌜ outcomeOf r ≡ readingOutcome (reading (compatOf compat) (now (s .entry))) ⌝ }
+{
+    if s.len() > 65535 {
+        return Reading::Refused(Refusal::TooLong);
+    }
+    let t = measure(s, compat);
+    if !t.found {
+        return Reading::Refused(Refusal::NoReading);
+    }
+    if t.large {
+        return Reading::Refused(Refusal::TooLarge);
+    }
+    if t.over {
+        return Reading::Refused(Refusal::Over);
+    }
+    Reading::Accepted(Counts {
+        ranges: t.ranges,
+        comparators: t.comparators,
+        identifiers: t.identifiers,
+    })
+}
+
+// ---- the rows of a step
 
 // The row under the operator that is kept, if one is; answers how many words that is.
 fn put_kept(words: &mut [u64], range: u64, x: Step) -> usize
@@ -161,55 +158,10 @@ fn put_kept(words: &mut [u64], range: u64, x: Step) -> usize
     let kept = x.kept;
     match kept {
         Kept::Op(op) => {
-            put_comparator(
-                words,
-                range,
-                Comparator {
-                    op,
-                    major: x.major,
-                    minor: x.minor,
-                    patch: x.patch,
-                    count: x.count,
-                    over: false,
-                },
-            );
+            put_comparator(words, range, kept_with(op, x));
             6
         }
         Kept::Nothing => 0,
-    }
-}
-
-// Below the raised component; where none is raised, below zero.
-fn raised_to(x: Step) -> Comparator
-    requires { ⌜ Raisable (x .raised) x ⌝ }
-    ensures { λ r. ⌜ r ≡ raisedTo (x .raised) x ⌝ }
-{
-    let raised = x.raised;
-    let mut major = 0;
-    let mut minor = 0;
-    let mut patch = 0;
-    match raised {
-        Raised::Major => {
-            major = x.major + 1;
-        }
-        Raised::Minor => {
-            major = x.major;
-            minor = x.minor + 1;
-        }
-        Raised::Patch => {
-            major = x.major;
-            minor = x.minor;
-            patch = x.patch + 1;
-        }
-        Raised::Nothing => {}
-    }
-    Comparator {
-        op: Op::Lt,
-        major,
-        minor,
-        patch,
-        count: 0,
-        over: false,
     }
 }
 
@@ -221,29 +173,29 @@ fn put_raised(words: &mut [u64], range: u64, x: Step) -> usize
     ensures small { λ r. ⌜ r ≤ 6 ⌝ }
 {
     let raised = x.raised;
-    if raised_rows(raised) == 0 {
+    if raised_count(raised) == 0 {
         return 0;
     }
     put_comparator(words, range, raised_to(x));
     6
 }
 
-// The rows of a step's piece, in the range with this number.
-fn put_step(words: &mut [u64], range: u64, x: Step) -> usize
+// The comparator rows of a step, in the range with this number.
+fn put_comparators(words: &mut [u64], range: u64, x: Step) -> usize
     requires { ⌜ Raisable (x .raised) x ⌝ }
-    requires { ⌜ length (stepWords range x) ≤ length (now words) ⌝ }
-    ensures { λ r. ⌜ Put (now (words .entry)) 0 (stepWords range x) (now (words .exit)) r ⌝ }
+    requires { ⌜ length (stepComparatorWords range x) ≤ length (now words) ⌝ }
+    ensures { λ r. ⌜ Put (now (words .entry)) 0 (stepComparatorWords range x) (now (words .exit)) r ⌝ }
     ensures small { λ r. ⌜ r ≤ 12 ⌝ }
 {
     let at = put_kept(words, range, x);
     at + put_raised(&mut words[at..], range, x)
 }
 
-// The identifier rows of a step's piece. Its qualifier's sign stands where from bytes of the text are left.
-fn put_names(s: &[u8], x: Step, ids: &mut [u64]) -> usize
-    requires { ⌜ Named (now s) x ⌝ }
-    requires { ⌜ length (stepNames (now s) x) ≤ length (now ids) ⌝ }
-    ensures { λ r. ⌜ Put (now (ids .entry)) 0 (stepNames (now (s .entry)) x) (now (ids .exit)) r ⌝ }
+// The identifier rows of a step. Its qualifier's sign stands where from bytes of the text are left.
+fn put_qualifier(s: &[u8], x: Step, ids: &mut [u64]) -> usize
+    requires { ⌜ Signed (now s) x ⌝ }
+    requires { ⌜ length (stepIdentifierWords (now s) x) ≤ length (now ids) ⌝ }
+    ensures { λ r. ⌜ Put (now (ids .entry)) 0 (stepIdentifierWords (now (s .entry)) x) (now (ids .exit)) r ⌝ }
 {
     if x.count == 0 {
         return 0;
@@ -252,32 +204,31 @@ fn put_names(s: &[u8], x: Step, ids: &mut [u64]) -> usize
     put_identifiers(&s[at..], at, ids)
 }
 
-// ---- the rows of a piece, behind those that are written
+// ---- the rows of a step, behind those that are written
 
 // From word `at` on; answers the place behind them.
-fn put_step_at(words: &mut [u64], at: usize, range: u64, x: Step) -> usize
+fn put_comparators_at(words: &mut [u64], at: usize, range: u64, x: Step) -> usize
     requires { ⌜ Raisable (x .raised) x ⌝ }
-    requires { ⌜ at + length (stepWords range x) ≤ length (now words) ⌝ }
-    ensures { λ r. ⌜ Put (now (words .entry)) at (stepWords range x) (now (words .exit)) r ⌝ }
+    requires { ⌜ at + length (stepComparatorWords range x) ≤ length (now words) ⌝ }
+    ensures { λ r. ⌜ Put (now (words .entry)) at (stepComparatorWords range x) (now (words .exit)) r ⌝ }
 {
-    at + put_step(&mut words[at..], range, x)
+    at + put_comparators(&mut words[at..], range, x)
 }
 
-fn put_names_at(s: &[u8], x: Step, ids: &mut [u64], at: usize) -> usize
-    requires { ⌜ Named (now s) x ⌝ }
-    requires { ⌜ at + length (stepNames (now s) x) ≤ length (now ids) ⌝ }
-    ensures { λ r. ⌜ Put (now (ids .entry)) at (stepNames (now (s .entry)) x) (now (ids .exit)) r ⌝ }
+fn put_qualifier_at(s: &[u8], x: Step, ids: &mut [u64], at: usize) -> usize
+    requires { ⌜ Signed (now s) x ⌝ }
+    requires { ⌜ at + length (stepIdentifierWords (now s) x) ≤ length (now ids) ⌝ }
+    ensures { λ r. ⌜ Put (now (ids .entry)) at (stepIdentifierWords (now (s .entry)) x) (now (ids .exit)) r ⌝ }
 {
-    at + put_names(s, x, &mut ids[at..])
+    at + put_qualifier(s, x, &mut ids[at..])
 }
 
 // ---- all rows
 
-// The rows of a text that has a reading, in which no component is too large and none cannot be raised.
 fn put_ranges(s: &[u8], compat: Compat, words: &mut [u64], ids: &mut [u64])
     requires { ⌜ Writable (compatOf compat) (now s) (length (now words)) (length (now ids)) ⌝ }
-    ensures { λ _. ⌜ now (words .exit) ≡ onto (walkWords 0 (rangesOf (walkOf (compatOf compat) (readText (now (s .entry)))))) (now (words .entry)) ⌝ }
-    ensures names { λ _. ⌜ now (ids .exit) ≡ onto (walkNames (length (now (s .entry))) (rangesOf (walkOf (compatOf compat) (readText (now (s .entry)))))) (now (ids .entry)) ⌝ }
+    ensures { λ _. ⌜ now (words .exit) ≡ comparatorWordsAfter (reading (compatOf compat) (now (s .entry))) (now (words .entry)) ⌝ }
+    ensures ids { λ _. ⌜ now (ids .exit) ≡ identifierWordsAfter (now (s .entry)) (reading (compatOf compat) (now (s .entry))) (now (ids .entry)) ⌝ }
 {
     let mut range = 0;
     let mut at = 0;
@@ -287,8 +238,8 @@ fn put_ranges(s: &[u8], compat: Compat, words: &mut [u64], ids: &mut [u64])
     while goes_on(stage) {
         let from = s.len() - left;
         let x = next(&s[from..], stage, compat);
-        at = put_step_at(words, at, range as u64, x);
-        to = put_names_at(s, x, ids, to);
+        at = put_comparators_at(words, at, range as u64, x);
+        to = put_qualifier_at(s, x, ids, to);
         stage = x.stage;
         left = x.left;
         range += opened(stage);
@@ -297,54 +248,23 @@ fn put_ranges(s: &[u8], compat: Compat, words: &mut [u64], ids: &mut [u64])
 
 // ---- the reading
 
-// How many ranges, comparator rows and identifier rows.
-pub struct Counts {
-    pub ranges: usize,
-    pub comparators: usize,
-    pub identifiers: usize,
-}
-
-// 01's refusals 1 to 6, or the counts.
-pub enum Reading {
-    Accepted(Counts),
-    TooLong,
-    NoReading,
-    TooLarge,
-    Over,
-    ComparatorsShort,
-    IdentifiersShort,
-}
-
 pub fn read(s: &[u8], compat: Compat, words: &mut [u64], ids: &mut [u64]) -> Reading
     ensures { λ r. ⌜ outcomeOf r ≡ readingOutcome (readingCall (compatOf compat) (now (s .entry)) (length (now (words .entry))) (length (now (ids .entry)))) ⌝ }
     ensures words { λ _. ⌜ now (words .exit) ≡ comparatorWordsAfter (readingCall (compatOf compat) (now (s .entry)) (length (now (words .entry))) (length (now (ids .entry)))) (now (words .entry)) ⌝ }
     ensures ids { λ _. ⌜ now (ids .exit) ≡ identifierWordsAfter (now (s .entry)) (readingCall (compatOf compat) (now (s .entry)) (length (now (words .entry))) (length (now (ids .entry)))) (now (ids .entry)) ⌝ }
 {
-    if s.len() > 65535 {
-        return Reading::TooLong;
+    let r = count(s, compat);
+    let Reading::Accepted(counts) = r else {
+        return r;
+    };
+    if counts.comparators > words.len() / 6 {
+        return Reading::Refused(Refusal::ComparatorsShort);
     }
-    let t = measure(s, compat);
-    if !t.found {
-        return Reading::NoReading;
-    }
-    if t.large {
-        return Reading::TooLarge;
-    }
-    if t.over {
-        return Reading::Over;
-    }
-    if t.rows > words.len() / 6 {
-        return Reading::ComparatorsShort;
-    }
-    if t.names > ids.len() / 3 {
-        return Reading::IdentifiersShort;
+    if counts.identifiers > ids.len() / 3 {
+        return Reading::Refused(Refusal::IdentifiersShort);
     }
     put_ranges(s, compat, words, ids);
-    Reading::Accepted(Counts {
-        ranges: t.ranges,
-        comparators: t.rows,
-        identifiers: t.names,
-    })
+    r
 }
 
 // ---- identifier bytes

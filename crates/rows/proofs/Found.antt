@@ -12,7 +12,7 @@ use Rattle.rules.specs.Syntax as S
 use Rattle.rules.specs.Syntax.{ofDigits}
 use Rattle.rules.specs.Grammar as G
 use Rattle.rules.specs.Grammar.{Literal}
-use Rattle.rules.specs.Parse.{Result, fail, ok, _then_, choose, many, all, oneOf, count, run, readIdentifier, readDotIdentifier, readIdentifiers}
+use Rattle.rules.specs.Parse.{Result, fail, ok, _then_, choose, many, all, oneOf, count, run, readIdentifier, readDotIdentifier, readIdentifiers, listOf, foundIn}
 use Rattle.rules.specs.Rows.{identifierRow}
 use Rattle.rules.proofs.Results.{Gives, nothing, gives, given, gives-choose}
 use Rattle.rules.proofs.Sound.{number-sound}
@@ -21,7 +21,7 @@ use Rattle.rules.proofs.Left.{Behind, behind-left, count-within, dotIdentifier-
 use Rattle.rules.proofs.Heads.{byte-empty, byte-yes, byte-not}
 use Rattle.rules.proofs.Repeat.{many-answers}
 use Rattle.lexer.specs.Views.{identifierOf}
-use Rattle.rows.specs.Views.{wordsOf, listOf, foundIn, identifierRows}
+use Rattle.rows.specs.Views.{wordsOf, identifierRows}
 
 -- ---- a reader as often as it succeeds: the bound does not matter
 

@@ -11,13 +11,13 @@ use lib.Seq.{drop-drop, getD-drop}
 use borrow.Rule.Slice.PartMut.{putMid}
 use Rattle.rules.specs.Bytes.{pick}
 use Rattle.rules.specs.Syntax as S
-use Rattle.rules.specs.Parse.{Result, fail, ok, leftOf, readIdentifier}
+use Rattle.rules.specs.Parse.{Result, fail, ok, leftOf, readIdentifier, foundIn}
 use Rattle.rules.specs.Rows.{identifierRow}
 use Rattle.rules.proofs.Left.{rest-in, identifier-behind, Took, took, failed, left-within}
 use Rattle.lexer.specs.Views.{identifierOf}
 use Rattle.lexer.specs.declared.Identifier.{Identifier}
 use Rattle.rows.specs.Put.{Put}
-use Rattle.rows.specs.Views.{wordsOf, foundIn, identifierRows}
+use Rattle.rows.specs.Views.{wordsOf, identifierRows}
 use Rattle.rows.proofs.Puts.{Writing, writing-start, writing-put, writing-end, writing-next, Begins, put-part}
 use Rattle.rows.proofs.Found.{dotted, found-none, found-more, dotted-empty, dotted-not, dotted-dot, row-words}
 

@@ -1,11 +1,10 @@
--- The words that the code stores, by what it knows of a comparator and of an identifier; and the identifiers of a text.
+-- The words that the code stores, by what it knows of a comparator and of an identifier.
 -- Assumes nothing.
 use Prim.Native.Nat.{ℕ}
 use mathlib.Core.List.{List, [], _∷_, map}
 use Rattle.rules.specs.Bytes.{pick}
 use Rattle.rules.specs.Lists.{concat}
 use Rattle.rules.specs.Syntax as S
-use Rattle.rules.specs.Parse.{Result, fail, ok, readIdentifiers}
 use Rattle.rules.specs.Rows.{opCode, identifierRow}
 use Rattle.lexer.specs.declared.Identifier.{Identifier}
 use Rattle.partial.specs.Views.{opOf}
@@ -22,15 +21,6 @@ comparatorWords range c = range ∷ opCode (opOf (c .op)) ∷ c .major ∷ c .mi
 -- the row of an identifier that takes size bytes from place on
 unfoldable pub wordsOf : Identifier → ℕ → ℕ → List ℕ
 wordsOf i place size = pick (i .number) (0 ∷ i .value ∷ 0 ∷ []) (1 ∷ place ∷ size ∷ [])
-
--- what was found, if anything
-abbrev pub listOf : Result (List S.Identifier) → List S.Identifier
-listOf fail = []
-listOf (ok is r) = is
-
--- the identifiers with dots between that s begins with
-unfoldable pub foundIn : List ℕ → List S.Identifier
-foundIn s = listOf (readIdentifiers s)
 
 -- their rows, in a text of n bytes
 unfoldable pub identifierRows : ℕ → List S.Identifier → List ℕ

@@ -3,7 +3,8 @@
 ghost use Prim.Native.Nat.{_+_, _<_, _≤_};
 ghost use lib.ListN.{length};
 ghost use Rattle.rows.specs.Put.{Put};
-ghost use Rattle.rows.specs.Views.{comparatorWords, wordsOf, foundIn, identifierRows};
+ghost use Rattle.rules.specs.Parse.{foundIn};
+ghost use Rattle.rows.specs.Views.{comparatorWords, wordsOf, identifierRows};
 use lexer::Identifier;
 use partial::Comparator;
 

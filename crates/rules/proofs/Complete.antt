@@ -19,10 +19,10 @@ use Rattle.rules.proofs.Follows.{Stops, passes, nonzero-stops, number-s
 
 -- ---- how much is left
 
-one-left : {p : ℕ → Bool} {s t : List ℕ} {c : ℕ} → OneOf p s c t → length s ≡ suc (length t)
+pub one-left : {p : ℕ → Bool} {s t : List ℕ} {c : ℕ} → OneOf p s c t → length s ≡ suc (length t)
 one-left (OneOf.one e) = refl
 
-literal-left : {w s r : List ℕ} → Literal w s r → length s ≡ length w + length r
+pub literal-left : {w s r : List ℕ} → Literal w s r → length s ≡ length w + length r
 literal-left G.done = omega arith
 literal-left (G.byte k) = let h = literal-left k in omega arith
 
@@ -30,7 +30,7 @@ run-left : {p : ℕ → Bool} {s w r : List ℕ} → Run p s w r → length r �
 run-left Run.stop = omega arith
 run-left (Run.more e k) = let h = run-left k in omega arith
 
-spaces-left : {s r : List ℕ} → Spaces s r → length r ≤ length s
+pub spaces-left : {s r : List ℕ} → Spaces s r → length r ≤ length s
 spaces-left G.no-space = omega arith
 spaces-left (G.space e k) = let h = spaces-left k in omega arith
 
@@ -45,7 +45,7 @@ identifier-left (G.word o k) = omega (arith, one-left o, run-left k)
 dotIdentifier-left : {s r : List ℕ} {i : Identifier} → ReadsDotIdentifier s i r → length r < length s
 dotIdentifier-left (G.dot b i) = omega (arith, literal-left b, identifier-left i)
 
-gap-left : {s r : List ℕ} → Gap s r → length r < length s
+pub gap-left : {s r : List ℕ} → Gap s r → length r < length s
 gap-left (G.plain (G.spaces₁ o k)) = omega (arith, one-left o, spaces-left k)
 gap-left (G.comma b (G.spaces₁ o k)) = omega (arith, literal-left b, one-left o, spaces-left k)
 
@@ -68,7 +68,7 @@ partial-left (ReadsPartial.one c) = component-left c
 partial-left (G.two c b d) = omega (arith, component-left c, literal-left b, component-left d)
 partial-left (G.three c b d b′ e q) = omega (arith, component-left c, literal-left b, component-left d, literal-left b′, component-left e, qualifier-left q)
 
-prefix-left : {s r : List ℕ} {f : Prefix} → ReadsPrefix s f r → length r ≤ length s
+pub prefix-left : {s r : List ℕ} {f : Prefix} → ReadsPrefix s f r → length r ≤ length s
 prefix-left (G.is-lte b) = omega (arith, literal-left b)
 prefix-left (G.is-gte b) = omega (arith, literal-left b)
 prefix-left (G.is-gt b) = omega (arith, literal-left b)
@@ -85,7 +85,7 @@ item-left (G.prefixed o k p) = omega (arith, prefix-left o, spaces-left k, parti
 next-left : {s r : List ℕ} {i : Item} → ReadsNext s i r → length r < length s
 next-left (G.next g i) = omega (arith, gap-left g, item-left i)
 
-dash-left : {s r : List ℕ} → Dash s r → length r < length s
+pub dash-left : {s r : List ℕ} → Dash s r → length r < length s
 dash-left (G.dash (G.spaces₁ o k) l (G.spaces₁ o′ m)) = omega (arith, one-left o, spaces-left k, literal-left l, one-left o′, spaces-left m)
 
 range-left : {s r : List ℕ} {a : Range} → ReadsRange s a r → length r ≤ length s

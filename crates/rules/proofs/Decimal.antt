@@ -1,17 +1,21 @@
--- The decimal digits of a number are read as that number.
+-- The decimal digits of a number are read as that number, and digits that are read as a number are its decimal digits.
 -- Assumes nothing.
-use mathlib.Core.Path.{_≡_, refl, ap, _∙_}
-use Prim.Native.Nat.{ℕ, zero, suc, _+_, _/_, _%_, _≤_, _<_}
+use mathlib.Core.Path.{_≡_, refl, ap, ap₂, _∙_}
+use Prim.Native.Nat.{ℕ, zero, suc, _+_, _*_, _-_, _/_, _%_, _≤_, _<_}
 use native.Mathlib.Omega.{arith}
 use mathlib.Core.Bool.{Bool, true, false}
 use mathlib.Core.Option.{some}
-use mathlib.Core.List.{List, [], _∷_, _++_}
-use lib.Dec.{ltb}
-use borrow.Author.Tests.{ltb-true, ltb-false, le-leb}
+use mathlib.Core.List.{List, [], _∷_, _++_, append-nil}
+use lib.Dec.{leb, ltb}
+use lib.ListN.{length}
+use borrow.Author.Tests.{ltb-true, ltb-false, lt-ltb, le-ltb, leb-true, le-leb}
 use Rattle.rules.specs.Bytes.{isDigit, isNonzero, value, valueFrom}
 use Rattle.rules.specs.Grammar as G
 use Rattle.rules.specs.Grammar.{OneOf, Run, byte, done, ReadsNumber, ReadsComponent}
 use Rattle.rules.specs.NormalText.{decimalTo, decimal}
+use Rattle.rules.proofs.Follows.{both}
+
+-- ---- decimal digits are read as the number
 
 digit-is : (n : ℕ) → n < 10 → isDigit (48 + n) ≡ true
 unfolding isDigit
@@ -58,3 +62,48 @@ decimal-value n = decimalTo-value (suc n) n [] (omega arith)
 
 pub decimal-component : (n : ℕ) (r : List ℕ) → ReadsComponent (decimal n ++ r) (some n) r
 decimal-component n r = rw (decimal-value n) at (ReadsComponent.number (decimal-number n r))
+
+-- ---- digits that are read are the decimal digits of their value
+
+pub first-digit : (f n : ℕ) (ds : List ℕ) → n < 10 → decimalTo (suc f) n ds ≡ (48 + n) ∷ ds
+unfolding decimalTo
+first-digit f n ds h = rw (decimalTo, lt-ltb n 10 h)
+
+pub further-digits : (f n : ℕ) (ds : List ℕ) → 10 ≤ n → decimalTo (suc f) n ds ≡ decimalTo f (n / 10) ((48 + n % 10) ∷ ds)
+unfolding decimalTo
+further-digits f n ds h = rw (decimalTo, le-ltb n 10 h)
+
+-- The last digit of a number comes off and stands before the digits ds; then all of its digits but the first do.
+digit-step : (f a c : ℕ) (ds : List ℕ) → 0 < a → isDigit c ≡ true → decimalTo (suc f) (a * 10 + (c - 48)) ds ≡ decimalTo f a (c ∷ ds)
+unfolding isDigit
+digit-step f a c ds z e =
+    let x = both (leb 48 c) (leb c 57) e in
+    let l = leb-true 48 c (x .0) in let h = leb-true c 57 (x .1) in
+    further-digits f (a * 10 + (c - 48)) ds (omega arith) ∙ ap₂ (λ n d. decimalTo f n (d ∷ ds)) (omega arith) (omega arith)
+
+digits-step : (f a : ℕ) (ds : List ℕ) {s w r : List ℕ} → 0 < a → Run isDigit s w r → decimalTo (length w + f) (valueFrom a w) ds ≡ decimalTo f a (w ++ ds)
+unfolding valueFrom
+digits-step f a ds z Run.stop = ap (λ n. decimalTo n a ds) (omega arith)
+digits-step f a ds z (Run.more {c} {w} e k) =
+    let v = valueFrom (a * 10 + (c - 48)) w in
+    ap (λ n. decimalTo n v ds) (omega arith) ∙ digits-step (suc f) (a * 10 + (c - 48)) ds (omega arith) k ∙ digit-step f a c (w ++ ds) z e
+
+-- behind a first digit that is not 0 there are fewer digits than the value: the bound that `decimal` sets is enough for them
+valueFrom-length : (a : ℕ) (w : List ℕ) → 0 < a → a + length w ≤ valueFrom a w
+unfolding valueFrom
+valueFrom-length a [] z = omega arith
+valueFrom-length a (c ∷ w) z = let h = valueFrom-length (a * 10 + (c - 48)) w (omega arith) in omega arith
+
+pub value-decimal : {s w r : List ℕ} → ReadsNumber s w r → decimal (value w) ≡ w
+unfolding decimal decimalTo value valueFrom isNonzero
+value-decimal (G.zero l) = refl
+value-decimal (G.digits {c} {w} (OneOf.one e) k) =
+    let x = both (leb 49 c) (leb c 57) e in
+    let l = leb-true 49 c (x .0) in let h = leb-true c 57 (x .1) in
+    let a = 0 * 10 + (c - 48) in
+    let v = valueFrom a w in
+    let b = valueFrom-length a w (omega arith) in
+    let f = v - length w in
+    let n : suc v ≡ length w + suc f = omega arith in
+    let d : 48 + a ≡ c = omega arith in
+    ap (λ n. decimalTo n v []) n ∙ digits-step (suc f) a [] (omega arith) k ∙ first-digit f a (w ++ []) (omega arith) ∙ ap₂ _∷_ d (append-nil w)

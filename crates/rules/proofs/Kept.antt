@@ -4,10 +4,10 @@ use mathlib.Core.Option.{Option, none, some}
 use mathlib.Core.List.{List, [], _∷_, _++_, map}
 use Rattle.rules.specs.Lists.{concat, All, all[], all∷}
 use Rattle.rules.specs.Syntax.{Identifier, Partial, identifiersOf, Item, item, Range, nothing, items, hyphen}
-use Rattle.rules.specs.Expansion.{Compat, Comparator, Component, major, minor, patch, Piece, piece, everything, asRead, raised, comparators, expandItem, expandLeft, expandRight, expandRange, comparatorsOf, expand}
+use Rattle.rules.specs.Expansion.{Compat, Comparator, Component, major, minor, patch, Piece, piece, partialIn, everything, asRead, raised, comparators, expandItem, expandLeft, expandRight, expandRange, comparatorsOf, expand}
 use Rattle.rules.specs.Rows.{identifiersIn, allIdentifiers}
 use Rattle.rules.proofs.All.{all-weaken, all-concat, all-map, append-all, concat-map-all}
-use Rattle.rules.proofs.Pieces.{partialIn, gives-partial, item-gives, left-partial, right-partial}
+use Rattle.rules.proofs.Pieces.{gives-partial, item-gives, left-partial, right-partial}
 
 abbrev pub identifiersOfItem : Item → List Identifier
 identifiersOfItem (item f p) = identifiersOf p

@@ -16,7 +16,9 @@ pub mod ReadBackLaws
 pub mod Decimal
 pub mod Pairwise
 pub mod Spelling
+pub mod NormalTextCall
 pub mod RoundTrip
+pub mod Equal
 pub mod Left
 pub mod Repeat
 pub mod Heads
@@ -29,4 +31,8 @@ pub mod StepNames
 pub mod Tallies
 pub mod ReadingCall
 pub mod WalkWords
+pub mod WalkText
+pub mod Source
+pub mod Bound
+pub mod PlainformLaws
 pub mod Theorems

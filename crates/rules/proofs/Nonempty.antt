@@ -31,7 +31,7 @@ hyphen-nonempty (majorOnly a) q = nonempty
 hyphen-nonempty (majorMinor a b) q = nonempty
 hyphen-nonempty (majorMinorPatch a b c is) q = nonempty
 
-range-nonempty : (m : Compat) (a : Range) → Nonempty (comparatorsOf (expandRange m a))
+pub range-nonempty : (m : Compat) (a : Range) → Nonempty (comparatorsOf (expandRange m a))
 unfolding comparatorsOf expandRange comparators asRead
 range-nonempty m nothing = nonempty
 range-nonempty m (items (item f p) is) = nonempty-append _ (gives-nonempty (item-gives m f p))

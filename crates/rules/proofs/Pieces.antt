@@ -4,7 +4,7 @@ use mathlib.Core.Path.{_≡_, refl}
 use mathlib.Core.Option.{Option, none, some}
 use mathlib.Core.List.{[]}
 use Rattle.rules.specs.Syntax.{identifiersOf, Partial, xRangeOnly, majorOnly, majorMinor, majorMinorPatch, Op, lt, lte, gt, gte, eq, Prefix, bare, tilde, caret, op, item}
-use Rattle.rules.specs.Expansion.{Compat, cargo, npm, Component, Piece, piece, expandEq, expandCaret, expandTilde, expandBare, expandLte, expandOp, expandItem, expandLeft, expandRight}
+use Rattle.rules.specs.Expansion.{Compat, cargo, npm, Component, Piece, piece, partialIn, expandEq, expandCaret, expandTilde, expandBare, expandLte, expandOp, expandItem, expandLeft, expandRight}
 
 -- ---- items
 
@@ -39,9 +39,6 @@ item-gives m (op eq) xRangeOnly = as-read
 item-gives m (op eq) (majorOnly a) = as-read
 item-gives m (op eq) (majorMinor a b) = as-read
 item-gives m (op eq) (majorMinorPatch a b c is) = as-read
-
-abbrev pub partialIn : Piece → Partial
-partialIn (piece o c p) = p
 
 pub gives-partial : {p : Partial} {x : Piece} → Gives p x → partialIn x ≡ p
 gives-partial as-read = refl

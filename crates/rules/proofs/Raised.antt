@@ -14,12 +14,12 @@ use Rattle.rules.specs.Lists.{concat, each, All, all[], all∷, Some}
 use Rattle.rules.specs.Bytes.{largest}
 use Rattle.rules.specs.Syntax.{Partial, Op, Item, item, Range, nothing, items, hyphen}
 use Rattle.rules.specs.Grammar.{ReadsText}
-use Rattle.rules.specs.Expansion.{Compat, majorOf, minorOf, patchOf, Component, major, minor, patch, componentOf, Piece, piece, Adds, asRead, raised, comparators, expandItem, expandLeft, expandRight, expandRange, pieces, comparatorsOf, Reading, expand}
+use Rattle.rules.specs.Expansion.{Compat, majorOf, minorOf, patchOf, Component, major, minor, patch, componentOf, Piece, piece, partialIn, Adds, asRead, raised, comparators, expandItem, expandLeft, expandRight, expandRange, pieces, comparatorsOf, Reading, expand}
 use Rattle.rules.specs.Answers.{Answer, refused, longest, fits, partialFits, itemFits, rangeFits, comparatorFits, readingFits, reading}
 use Rattle.rules.specs.Walk.{overIn}
 use Rattle.rules.proofs.Follows.{both}
 use Rattle.rules.proofs.All.{all-weaken, all-append, all-concat, all-map, each-all, each-append, each-concat-map, each-some, some-each, some-with}
-use Rattle.rules.proofs.Pieces.{partialIn, gives-partial, item-gives, left-partial, right-partial}
+use Rattle.rules.proofs.Pieces.{gives-partial, item-gives, left-partial, right-partial}
 use Rattle.rules.proofs.Accepted as A
 use Rattle.rules.proofs.Accepted.{Decided, decided}
 use Rattle.rules.proofs.Complete.{unambiguous}

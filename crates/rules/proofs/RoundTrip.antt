@@ -4,7 +4,6 @@
 use mathlib.Core.Path.{_≡_, refl, sym, ap, _∙_}
 use mathlib.Core.Logic.{_↔_}
 use Prim.Native.Nat.{ℕ, _≤_}
-use native.Mathlib.Omega.{arith}
 use mathlib.Core.Bool.{true}
 use mathlib.Core.List.{List, [], _∷_, _++_, map}
 use lib.ListN.{length}
@@ -16,7 +15,7 @@ use Rattle.rules.specs.Grammar.{ReadsText}
 use Rattle.rules.specs.Expansion.{Compat, Comparator, comparator, Reading, expand}
 use Rattle.rules.specs.Rows.{identifiersIn, allIdentifiers, placeless, placelessComparator, placelessReading}
 use Rattle.rules.specs.NormalText.{spellIdentifier, tailed, joined, spellIdentifiers, spellComparator, spellRange, spell}
-use Rattle.rules.specs.Answers.{Answer, accepted, refused, longest, comparatorFits, readingFits, reading, normalText}
+use Rattle.rules.specs.Answers.{accepted, longest, comparatorFits, readingFits, reading, normalText}
 use Rattle.rules.proofs.Complete.{unambiguous}
 use Rattle.rules.proofs.Accepted.{Accepted, reads, accepted-reading, reading-accepted}
 use Rattle.rules.proofs.All.{all-weaken, append-all, concat-map-all}
@@ -24,6 +23,7 @@ use Rattle.rules.proofs.Kept.{identifiersOfRange, expand-kept}
 use Rattle.rules.proofs.ReadIn.{text-holds}
 use Rattle.rules.proofs.Nonempty.{Nonempty, nonempty, expand-nonempty}
 use Rattle.rules.proofs.Pairwise.{some-all, each-map}
+use Rattle.rules.proofs.NormalTextCall.{normalText-accepted, normal-reading}
 use Rattle.rules.proofs.Spelling.{KeepsIdentifier, identifier-keeps, KeepsComparator, KeepsRange, Keeps, spelling}
 
 -- ---- what is read of a text keeps its spelling
@@ -120,28 +120,11 @@ round-trip m m′ t rs e l =
     let fit : readingFits ss ≡ true = sym (readingFits-placeless ss) ∙ ap readingFits same ∙ readingFits-placeless rs ∙ accepted-fits a in
     (ss, accepted-reading (reads l (x .1) (x .3 ∙ accepted-fits a) fit), same)
 
-pub normal-accepted : (m : Compat) (t : List ℕ) (rs : Reading) → reading m t ≡ accepted rs → normalText m t ≡ accepted (spell rs)
-unfolding normalText
-normal-accepted m t rs e = rw e
-
-pub normal-refused : (m : Compat) (t : List ℕ) (n : ℕ) → reading m t ≡ refused n → normalText m t ≡ refused n
-unfolding normalText
-normal-refused m t n e = rw e
-
-accepted-injective : {A : Type 0} (a b : A) → accepted a ≡ accepted b → a ≡ b
-accepted-injective a b e = cc
-
-accepted-refused : {A : Type 0} (a : A) (n : ℕ) → accepted a ≡ refused n → ⊥
-accepted-refused a n e = let z : _≡_ {A = ℕ} 0 1 = cc in omega arith
-
 -- the normal text is its own normal text
 pub normal-normal : (m m′ : Compat) (t w : List ℕ) → normalText m t ≡ accepted w → length w ≤ longest → normalText m′ w ≡ accepted w
-normal-normal m m′ t w e l = go (reading m t) refl
-  where
-    go : (a : Answer Reading) → reading m t ≡ a → normalText m′ w ≡ accepted w
-    go (refused k) q = absurd (accepted-refused w k (sym e ∙ normal-refused m t k q))
-    go (accepted rs) q =
-        let p : spell rs ≡ w = accepted-injective _ _ (sym (normal-accepted m t rs q) ∙ e) in
-        let x = round-trip m m′ t rs q (rw p l) in
-        let y : spell (x .0) ≡ spell rs = sym (spell-placeless (x .0)) ∙ ap spell (x .2) ∙ spell-placeless rs in
-        rw (← p) (normal-accepted m′ (spell rs) (x .0) (x .1) ∙ ap accepted y)
+normal-normal m m′ t w e l =
+    let y = normal-reading m t w e in
+    let rs = y .0 in
+    let x = round-trip m m′ t rs (y .1) (rw (y .2) at l) in
+    let same : spell (x .0) ≡ spell rs = sym (spell-placeless (x .0)) ∙ ap spell (x .2) ∙ spell-placeless rs in
+    rw (y .2) (normalText-accepted m′ (spell rs) (x .0) (x .1) ∙ ap accepted same)

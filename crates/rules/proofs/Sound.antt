@@ -78,7 +78,7 @@ unfolding readComponent
 component-sound s =
     gives-choose (oneOf-sound isWild s) (λ c r h. gives (G.wildcard h)) (gives-then (number-sound s) λ w r h. gives (ReadsComponent.number h))
 
-identifier-sound : (s : List ℕ) → Gives (ReadsIdentifier s) (readIdentifier s)
+pub identifier-sound : (s : List ℕ) → Gives (ReadsIdentifier s) (readIdentifier s)
 unfolding readIdentifier run _then_
 identifier-sound s =
     gives-choose (number-sound s) (λ w r h. gives (ReadsIdentifier.number h))
@@ -88,7 +88,7 @@ dotIdentifier-sound : (s : List ℕ) → Gives (ReadsDotIdentifier s) (readDotId
 unfolding readDotIdentifier
 dotIdentifier-sound s = gives-then (literal-sound (bytes ".") s) λ u t h. gives-map (identifier-sound t) λ i r k. G.dot h k
 
-identifiers-sound : (s : List ℕ) → Gives (ReadsIdentifiers s) (readIdentifiers s)
+pub identifiers-sound : (s : List ℕ) → Gives (ReadsIdentifiers s) (readIdentifiers s)
 unfolding readIdentifiers
 identifiers-sound s =
     gives-then (identifier-sound s) λ i t h. gives-then (many-sound readDotIdentifier dotIdentifier-sound (length t) t) λ is r k. gives (G.identifiers h k)

@@ -10,14 +10,14 @@ use lib.ListN.{length}
 use Rattle.rules.specs.Syntax as S
 use Rattle.rules.specs.Syntax.{Identifier, Partial, xRangeOnly, majorOnly, majorMinor, majorMinorPatch, upTo₁, upTo₂, upTo₃, identifiersOf, Prefix}
 use Rattle.rules.specs.Parse.{Result, fail, ok, skip, readPartial, afterThree, afterTwo, afterOne, readDot, readComponent}
-use Rattle.rules.specs.Expansion.{Compat, Piece, everything, expandItem, expandLeft, expandRight}
+use Rattle.rules.specs.Expansion.{Compat, Piece, everything, expandItem, expandLeft, expandRight, partialIn}
 use Rattle.rules.specs.Walk as W
-use Rattle.rules.specs.Walk.{Stage, item, range, right, only, end, bad, behind, answer, afterRange, follow, Step, step, stuck, stepTo, prefixAt, partialAt, isBare, taken, nextItem, nextRight, next, namesIn}
+use Rattle.rules.specs.Walk.{Stage, item, range, right, only, end, bad, behind, answer, afterRange, follow, Step, step, stuck, stepTo, prefixAt, partialAt, isBare, taken, nextItem, nextRight, next, identifierCount}
 use Rattle.rules.proofs.Results.{Gives, gives, gives-map, gives-then, gives-choose}
 use Rattle.rules.proofs.Left.{Behind, behind-none, behind-both, behind-left, dot-behind, component-behind, qualifier-behind}
 use Rattle.rules.proofs.LeftItems.{skip-behind}
 use Rattle.rules.proofs.StepLeft.{passed, Leaves, nowhere-left, afterRange-left, follow-left, partialAt-behind}
-use Rattle.rules.proofs.Pieces.{partialIn, gives-partial, item-gives, left-partial, right-partial}
+use Rattle.rules.proofs.Pieces.{gives-partial, item-gives, left-partial, right-partial}
 
 -- ---- a partial
 
@@ -54,13 +54,13 @@ partial-names s =
 -- ---- a step
 
 abbrev StepPasses : List ℕ → Step → Type 0
-StepPasses s (step x st r) = Behind (namesIn x) s r
+StepPasses s (step x st r) = Behind (identifierCount x) s r
 
-names-of : (x : Piece) (p : Partial) → partialIn x ≡ p → namesIn x ≡ length (identifiersOf p)
+names-of : (x : Piece) (p : Partial) → partialIn x ≡ p → identifierCount x ≡ length (identifiersOf p)
 names-of (Piece.piece o c q) p e = ap (λ y. length (identifiersOf y)) e
 
 -- a piece of the partial p, whose identifiers were passed before t
-of-piece : {s t r : List ℕ} {n : ℕ} (x : Piece) (p : Partial) → partialIn x ≡ p → Behind (length (identifiersOf p)) s t → Behind n t r → Behind (namesIn x) s r
+of-piece : {s t r : List ℕ} {n : ℕ} (x : Piece) (p : Partial) → partialIn x ≡ p → Behind (length (identifiersOf p)) s t → Behind n t r → Behind (identifierCount x) s r
 of-piece x p e h k = behind-both h k (omega (arith, names-of x p e))
 
 stuck-passes : (s : List ℕ) → StepPasses s stuck
@@ -107,5 +107,5 @@ next-passes m only s = nextRight-passes xRangeOnly s
 next-passes m end s = stuck-passes s
 next-passes m bad s = stuck-passes s
 
-pub next-names : (m : Compat) (st : Stage) (s : List ℕ) (x : Piece) (st′ : Stage) (r : List ℕ) → next m st s ≡ step x st′ r → namesIn x + length r ≤ length s
+pub next-names : (m : Compat) (st : Stage) (s : List ℕ) (x : Piece) (st′ : Stage) (r : List ℕ) → next m st s ≡ step x st′ r → identifierCount x + length r ≤ length s
 next-names m st s x st′ r e = behind-left (rw e at (next-passes m st s))

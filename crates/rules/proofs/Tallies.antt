@@ -9,18 +9,18 @@ use mathlib.Core.List.{List, [], _∷_, _++_, map}
 use lib.ListN.{length, length-append, length-map}
 use Rattle.rules.specs.Lists.{concat, each, All, all[], all∷}
 use Rattle.rules.specs.Syntax.{Partial, xRangeOnly, majorOnly, majorMinor, majorMinorPatch, identifiersOf, lt, lte, gt, gte, eq, Prefix, bare, tilde, caret, op, Item, item, Range, nothing, items, hyphen}
-use Rattle.rules.specs.Expansion.{Compat, cargo, npm, Component, major, minor, patch, componentOf, Piece, piece, Comparator, everything, asRead, raised, comparators, expandEq, expandCaret, expandTilde, expandBare, expandLte, expandOp, expandItem, expandLeft, expandRight, expandRange, pieces, comparatorsOf, Reading, expand}
+use Rattle.rules.specs.Expansion.{Compat, cargo, npm, Component, major, minor, patch, componentOf, Piece, piece, partialIn, Comparator, everything, asRead, raised, comparators, expandEq, expandCaret, expandTilde, expandBare, expandLte, expandOp, expandItem, expandLeft, expandRight, expandRange, pieces, comparatorsOf, Reading, expand}
 use Rattle.rules.specs.Rows.{identifiersIn, allIdentifiers}
 use Rattle.rules.specs.Answers.{fits, partialFits, itemFits, rangeFits, comparatorFits, readingFits, comparatorRows, identifierRows}
-use Rattle.rules.specs.Walk.{total, someOf, rowsIn, namesIn, largeIn, overIn, Tally, tally}
+use Rattle.rules.specs.Walk.{total, someOf, comparatorCount, identifierCount, largeIn, overIn, Tally, tally}
 use Rattle.rules.proofs.All.{all-weaken, all-append, all-concat, all-map, each-all, each-append}
-use Rattle.rules.proofs.Pieces.{Gives, as-read, raises, partialIn, gives-partial, item-gives, left-partial, right-partial}
+use Rattle.rules.proofs.Pieces.{Gives, as-read, raises, gives-partial, item-gives, left-partial, right-partial}
 use Rattle.rules.proofs.Pairwise.{each-map}
 use Rattle.rules.proofs.Raised.{expand-over}
 
 -- ---- sums and tests over lists of lists
 
-total-append : {A : Type 0} (f : A → ℕ) (k l : List A) → total f (k ++ l) ≡ total f k + total f l
+pub total-append : {A : Type 0} (f : A → ℕ) (k l : List A) → total f (k ++ l) ≡ total f k + total f l
 total-append f [] l = omega arith
 total-append f (a ∷ k) l = omega (arith, total-append f k l)
 
@@ -38,11 +38,11 @@ not-each p (a ∷ l) = go (p a) (not-each p l)
 
 -- ---- rows
 
-range-rows : (ps : List Piece) → length (comparatorsOf ps) ≡ total rowsIn ps
+range-rows : (ps : List Piece) → length (comparatorsOf ps) ≡ total comparatorCount ps
 unfolding comparatorsOf
 range-rows ps = length-concat-map comparators ps
 
-pub expand-rows : (m : Compat) (rs : List Range) → comparatorRows (expand m rs) ≡ total rowsIn (pieces m rs)
+pub expand-rows : (m : Compat) (rs : List Range) → comparatorRows (expand m rs) ≡ total comparatorCount (pieces m rs)
 unfolding expand pieces
 expand-rows m [] = refl
 expand-rows m (a ∷ rs) =
@@ -51,7 +51,7 @@ expand-rows m (a ∷ rs) =
       length-append (comparatorsOf (expandRange m a)) (concat (expand m rs)),
       range-rows (expandRange m a),
       expand-rows m rs,
-      total-append rowsIn (expandRange m a) (pieces m rs),
+      total-append comparatorCount (expandRange m a) (pieces m rs),
     )
 
 -- ---- identifiers
@@ -106,18 +106,18 @@ raised-names (some major) p = refl
 raised-names (some minor) p = refl
 raised-names (some patch) p = refl
 
-piece-names : (x : Piece) → Named x → names (comparators x) ≡ namesIn x
+piece-names : (x : Piece) → Named x → names (comparators x) ≡ identifierCount x
 unfolding comparators asRead
 piece-names (piece none c p) e = raised-names c p ∙ sym (ap length e)
 piece-names (piece (some o) c p) e = omega (arith, raised-names c p)
 
-range-names : {ps : List Piece} → All Named ps → names (comparatorsOf ps) ≡ total namesIn ps
+range-names : {ps : List Piece} → All Named ps → names (comparatorsOf ps) ≡ total identifierCount ps
 unfolding comparatorsOf
 range-names all[] = refl
 range-names (all∷ {a = x} {l = ps} h k) =
     omega (arith, total-append (λ c. length (identifiersIn c)) (comparators x) (comparatorsOf ps), piece-names x h, range-names k)
 
-expanded-names : (m : Compat) (rs : List Range) → names (concat (expand m rs)) ≡ total namesIn (pieces m rs)
+expanded-names : (m : Compat) (rs : List Range) → names (concat (expand m rs)) ≡ total identifierCount (pieces m rs)
 unfolding expand pieces
 expanded-names m [] = refl
 expanded-names m (a ∷ rs) =
@@ -126,10 +126,10 @@ expanded-names m (a ∷ rs) =
       total-append (λ c. length (identifiersIn c)) (comparatorsOf (expandRange m a)) (concat (expand m rs)),
       range-names (range-named m a),
       expanded-names m rs,
-      total-append namesIn (expandRange m a) (pieces m rs),
+      total-append identifierCount (expandRange m a) (pieces m rs),
     )
 
-pub expand-names : (m : Compat) (rs : List Range) → identifierRows (expand m rs) ≡ total namesIn (pieces m rs)
+pub expand-names : (m : Compat) (rs : List Range) → identifierRows (expand m rs) ≡ total identifierCount (pieces m rs)
 unfolding identifierRows allIdentifiers
 expand-names m rs = length-concat-map identifiersIn (concat (expand m rs)) ∙ expanded-names m rs
 

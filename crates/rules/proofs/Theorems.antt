@@ -18,6 +18,7 @@ use Rattle.rules.specs.NormalText.{spell}
 use Rattle.rules.specs.Answers.{accepted, refused, longest, rangeFits, reading, normalText}
 use Rattle.rules.specs.Alike.{Alike, plain}
 use Rattle.rules.specs.ReadBack.{readBack}
+use Rattle.rules.specs.Plainform.{inputSheet, outputOf, outputGiven}
 use Rattle.rules.specs.Examples.{benchSheet, worked, expected, answered, workedRows, rowsAnswered, rowsExpected}
 use Rattle.rules.proofs.Sound as Sound
 use Rattle.rules.proofs.Complete as Complete
@@ -100,3 +101,8 @@ read-back = ReadBackLaws.read-back
 
 pub places : (m : Compat) (t : List ℕ) (rs : Reading) → reading m t ≡ accepted rs → All (InText t) (allIdentifiers rs)
 places = Places.places
+
+-- ---- 9. The program `plainform`: 01's example, and further inputs.
+
+pub input-sheet : map outputOf inputSheet ≡ map outputGiven inputSheet
+input-sheet = Tables.tables .3

@@ -8,7 +8,7 @@ use Rattle.rules.specs.Lists.{concat, All, all[], all∷}
 use Rattle.rules.specs.Syntax.{Partial, identifiersOf, Identifier, Range}
 use Rattle.rules.specs.Expansion.{Compat, Component, major, minor, patch, Piece, piece, Comparator, asRead, raised, comparators, expandRange, pieces, comparatorsOf, Reading, expand}
 use Rattle.rules.specs.Rows.{identifiersIn, comparatorRow, rowsFrom, comparatorWords, identifierRow, allIdentifiers, identifierWords}
-use Rattle.rules.specs.Walk.{pieceWords, pieceNames, walkWords, walkNames}
+use Rattle.rules.specs.Walk.{pieceComparatorWords, pieceIdentifierWords, walkComparatorWords, walkIdentifierWords}
 use Rattle.rules.proofs.Tallies.{Named, range-named}
 
 -- ---- lists of lists
@@ -21,22 +21,22 @@ map-append : {A B : Type 0} (f : A → B) (k l : List A) → map f (k ++ l) ≡ 
 map-append f [] l = refl
 map-append f (a ∷ k) l = ap (λ x. f a ∷ x) (map-append f k l)
 
-concat-map-append : {A B : Type 0} (f : A → List B) (k l : List A) → concat (map f (k ++ l)) ≡ concat (map f k) ++ concat (map f l)
+pub concat-map-append : {A B : Type 0} (f : A → List B) (k l : List A) → concat (map f (k ++ l)) ≡ concat (map f k) ++ concat (map f l)
 concat-map-append f k l = ap concat (map-append f k l) ∙ concat-append (map f k) (map f l)
 
 -- ---- comparator words
 
-range-words : (k : ℕ) (ps : List Piece) → concat (map (comparatorRow k) (comparatorsOf ps)) ≡ concat (map (pieceWords k) ps)
-unfolding comparatorsOf pieceWords
+range-words : (k : ℕ) (ps : List Piece) → concat (map (comparatorRow k) (comparatorsOf ps)) ≡ concat (map (pieceComparatorWords k) ps)
+unfolding comparatorsOf pieceComparatorWords
 range-words k [] = refl
 range-words k (x ∷ ps) = concat-map-append (comparatorRow k) (comparators x) (comparatorsOf ps) ∙ ap (λ w. concat (map (comparatorRow k) (comparators x)) ++ w) (range-words k ps)
 
-rows-words : (m : Compat) (k : ℕ) (rs : List Range) → rowsFrom k (expand m rs) ≡ walkWords k (map (expandRange m) rs)
-unfolding rowsFrom expand walkWords
+rows-words : (m : Compat) (k : ℕ) (rs : List Range) → rowsFrom k (expand m rs) ≡ walkComparatorWords k (map (expandRange m) rs)
+unfolding rowsFrom expand walkComparatorWords
 rows-words m k [] = refl
 rows-words m k (a ∷ rs) = ap₂ _++_ (range-words k (expandRange m a)) (rows-words m (suc k) rs)
 
-pub expand-words : (m : Compat) (rs : List Range) → comparatorWords (expand m rs) ≡ walkWords 0 (map (expandRange m) rs)
+pub expand-words : (m : Compat) (rs : List Range) → comparatorWords (expand m rs) ≡ walkComparatorWords 0 (map (expandRange m) rs)
 unfolding comparatorWords
 expand-words m rs = rows-words m 0 rs
 
@@ -75,12 +75,12 @@ text-identifiers m (a ∷ rs) =
     ∙ ap₂ _++_ (range-identifiers (range-named m a)) (text-identifiers m rs)
     ∙ sym (concat-map-append identifiersOfPiece (expandRange m a) (pieces m rs))
 
-names-rows : (n : ℕ) (ps : List Piece) → concat (map (identifierRow n) (concat (map identifiersOfPiece ps))) ≡ concat (map (pieceNames n) ps)
-unfolding pieceNames
+names-rows : (n : ℕ) (ps : List Piece) → concat (map (identifierRow n) (concat (map identifiersOfPiece ps))) ≡ concat (map (pieceIdentifierWords n) ps)
+unfolding pieceIdentifierWords
 names-rows n [] = refl
 names-rows n (piece o c p ∷ ps) =
     concat-map-append (identifierRow n) (identifiersOf p) (concat (map identifiersOfPiece ps)) ∙ ap (λ w. concat (map (identifierRow n) (identifiersOf p)) ++ w) (names-rows n ps)
 
-pub expand-names-words : (m : Compat) (n : ℕ) (rs : List Range) → identifierWords n (expand m rs) ≡ walkNames n (map (expandRange m) rs)
-unfolding identifierWords allIdentifiers walkNames pieces
+pub expand-names-words : (m : Compat) (n : ℕ) (rs : List Range) → identifierWords n (expand m rs) ≡ walkIdentifierWords n (map (expandRange m) rs)
+unfolding identifierWords allIdentifiers walkIdentifierWords pieces
 expand-names-words m n rs = ap (λ l. concat (map (identifierRow n) l)) (text-identifiers m rs) ∙ names-rows n (pieces m rs)

@@ -43,6 +43,9 @@ pub data Component : Type 0 where
 pub data Piece : Type 0 where
   piece : Option Op → Option Component → Partial → Piece
 
+abbrev pub partialIn : Piece → Partial
+partialIn (piece o c p) = p
+
 -- "Only a full partial has identifiers; the first comparator it gives keeps them"
 unfoldable pub asRead : Option Op → Partial → List Comparator
 asRead none p = []

@@ -7,7 +7,9 @@ pub mod Expansion
 pub mod Rows
 pub mod NormalText
 pub mod Answers
+pub mod Plainform
 pub mod Walk
 pub mod Alike
 pub mod ReadBack
+pub mod Equality
 pub mod Examples

@@ -155,9 +155,18 @@ atEnd (c ∷ s) = fail
 unfoldable pub readText : List ℕ → Result (List Range)
 readText s = readRange (skip s) then λ a t. all readFurther t then λ l r. atEnd (skip r) then λ u e. ok (a ∷ l) e
 
--- ---- for code that counts
+-- ---- for code that looks again at what was read
 
 -- how many bytes are left behind what is read; all of them where nothing is read
 abbrev pub leftOf : {A : Type 0} → List ℕ → Result A → ℕ
 leftOf s fail = length s
 leftOf s (ok a r) = length r
+
+-- what was found, if anything
+abbrev pub listOf : {A : Type 0} → Result (List A) → List A
+listOf fail = []
+listOf (ok l r) = l
+
+-- the identifiers with dots between that s begins with
+unfoldable pub foundIn : List ℕ → List Identifier
+foundIn s = listOf (readIdentifiers s)

@@ -10,12 +10,13 @@ use mathlib.Core.List.{List, [], _∷_, _++_, map}
 use lib.Dec.{eqb, ltb}
 use lib.ListN.{length}
 use Rattle.rules.specs.Lists.{concat}
-use Rattle.rules.specs.Bytes.{pick}
+use Rattle.rules.specs.Bytes.{bytes, pick}
 use Rattle.rules.specs.Syntax as S
 use Rattle.rules.specs.Syntax.{Partial, xRangeOnly, majorOnly, majorMinor, majorMinorPatch, identifiersOf, Prefix, bare, tilde, caret, op, Range}
 use Rattle.rules.specs.Parse.{Result, fail, ok, literal, skip, spaces₁, readPartial, readPrefix}
-use Rattle.rules.specs.Expansion.{Compat, componentOf, Piece, piece, comparators, everything, expandItem, expandLeft, expandRight, expandRange}
+use Rattle.rules.specs.Expansion.{Compat, Comparator, componentOf, Piece, piece, comparators, everything, expandItem, expandLeft, expandRight, expandRange, comparatorsOf}
 use Rattle.rules.specs.Rows.{comparatorRow, identifierRow}
+use Rattle.rules.specs.NormalText.{spellComparator}
 use Rattle.rules.specs.Answers.{fits, partialFits}
 
 -- ---- what stands behind a piece
@@ -165,11 +166,11 @@ someOf p [] = false
 someOf p (a ∷ l) = p a || someOf p l
 
 -- how many comparators a piece gives, and how many identifiers
-abbrev pub rowsIn : Piece → ℕ
-rowsIn x = length (comparators x)
+abbrev pub comparatorCount : Piece → ℕ
+comparatorCount x = length (comparators x)
 
-abbrev pub namesIn : Piece → ℕ
-namesIn (piece o c p) = length (identifiersOf p)
+abbrev pub identifierCount : Piece → ℕ
+identifierCount (piece o c p) = length (identifiersOf p)
 
 -- a component that was read is above the largest number; one that is raised is not below it
 abbrev pub largeIn : Piece → Bool
@@ -182,33 +183,63 @@ overIn (piece o (some c) p) = not (fits (suc (componentOf c p)))
 -- of a text: how many ranges, comparator rows and identifier rows, and whether refusal 3 or 4 applies
 pub record Tally : Type 0 where
   pub ranges : ℕ
-  pub rows : ℕ
-  pub names : ℕ
+  pub comparators : ℕ
+  pub identifiers : ℕ
   pub large : Bool
   pub over : Bool
 
 unfoldable pub tally : List (List Piece) → Tally
 tally rs =
     let ps = concat rs in
-    record { ranges = length rs; rows = total rowsIn ps; names = total namesIn ps; large = someOf largeIn ps; over = someOf overIn ps }
+    record { ranges = length rs; comparators = total comparatorCount ps; identifiers = total identifierCount ps; large = someOf largeIn ps; over = someOf overIn ps }
 
 -- ---- the words of the pieces
 
 -- the comparator rows of a piece in range k, and its identifier rows in a text of n bytes
-unfoldable pub pieceWords : ℕ → Piece → List ℕ
+unfoldable pub pieceComparatorWords : ℕ → Piece → List ℕ
 unfolding comparatorRow
-pieceWords k x = concat (map (comparatorRow k) (comparators x))
+pieceComparatorWords k x = concat (map (comparatorRow k) (comparators x))
 
-unfoldable pub pieceNames : ℕ → Piece → List ℕ
+unfoldable pub pieceIdentifierWords : ℕ → Piece → List ℕ
 unfolding identifierRow
-pieceNames n (piece o c p) = concat (map (identifierRow n) (identifiersOf p))
+pieceIdentifierWords n (piece o c p) = concat (map (identifierRow n) (identifiersOf p))
 
 -- of the ranges from number k on
-unfoldable pub walkWords : ℕ → List (List Piece) → List ℕ
-unfolding pieceWords
-walkWords k [] = []
-walkWords k (ps ∷ rs) = concat (map (pieceWords k) ps) ++ walkWords (suc k) rs
+unfoldable pub walkComparatorWords : ℕ → List (List Piece) → List ℕ
+unfolding pieceComparatorWords
+walkComparatorWords k [] = []
+walkComparatorWords k (ps ∷ rs) = concat (map (pieceComparatorWords k) ps) ++ walkComparatorWords (suc k) rs
 
-unfoldable pub walkNames : ℕ → List (List Piece) → List ℕ
-unfolding pieceNames
-walkNames n rs = concat (map (pieceNames n) (concat rs))
+unfoldable pub walkIdentifierWords : ℕ → List (List Piece) → List ℕ
+unfolding pieceIdentifierWords
+walkIdentifierWords n rs = concat (map (pieceIdentifierWords n) (concat rs))
+
+-- ---- the normal text of the pieces
+
+-- What stands before the next comparator: nothing, at the start of the text; a blank, behind a comparator of the same range; or the bars, at
+-- the start of a further range.
+pub data Gap : Type 0 where
+  start blank bars : Gap
+
+unfoldable pub spellGap : Gap → List ℕ
+spellGap start = []
+spellGap blank = 0x20 ∷ []
+spellGap bars = bytes " || "
+
+-- comparators of one range, the first one behind this gap
+unfoldable pub spellAfter : Gap → List Comparator → List ℕ
+unfolding spellGap spellComparator
+spellAfter g [] = []
+spellAfter g (c ∷ cs) = spellGap g ++ spellComparator c ++ spellAfter blank cs
+
+-- what then stands before the next comparator of that range: a piece may give none
+abbrev pub gapAfter : Gap → List Comparator → Gap
+gapAfter g [] = g
+gapAfter g (c ∷ cs) = blank
+
+-- The pieces of the range that has begun, behind this gap, then those of the further ranges. From the start of the text it is the spelling of the
+-- reading (`expand-text`, proofs/WalkText.antt).
+unfoldable pub walkText : Gap → List (List Piece) → List ℕ
+unfolding spellAfter comparatorsOf
+walkText g [] = []
+walkText g (ps ∷ rs) = spellAfter g (comparatorsOf ps) ++ walkText bars rs

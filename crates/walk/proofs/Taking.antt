@@ -16,7 +16,7 @@ use Rattle.rules.specs.Bytes.{pick, isSpace, largest}
 use Rattle.rules.specs.Syntax as S
 use Rattle.rules.specs.Parse.{count, skip}
 use Rattle.rules.specs.Expansion as E
-use Rattle.rules.specs.Expansion.{majorOf, minorOf, patchOf, componentOf, expandItem, expandLeft, expandRight}
+use Rattle.rules.specs.Expansion.{majorOf, minorOf, patchOf, componentOf, expandItem, expandLeft, expandRight, partialIn}
 use Rattle.rules.specs.Answers.{partialFits}
 use Rattle.rules.specs.Walk as W
 use Rattle.rules.proofs.Pieces.{gives-partial, item-gives, left-partial, right-partial}
@@ -32,7 +32,7 @@ use Rattle.range.specs.declared.Raised.{Raised}
 use Rattle.range.specs.declared.Raised.the-variants as Raises
 use Rattle.range.specs.declared.Expansion.{Expansion}
 use Rattle.range.proofs.Shapes.{item-shape, left-shape, right-shape}
-use Rattle.walk.specs.Views.{stageOf, stageFor, standing, behindOf, isItem, isRange, isRight, isLost, componentFor, overOf, stepOf, everythingTo, unreadAt, takenRight, takenAt, partialIn, Steps, Takes}
+use Rattle.walk.specs.Views.{stageOf, stageFor, standing, behindOf, isItem, isRange, isRight, isLost, componentFor, overOf, stepOf, everythingTo, unreadAt, takenRight, takenAt, Steps, Takes}
 use Rattle.walk.specs.declared.Stage.{Stage}
 use Rattle.walk.specs.declared.Stage.the-variants as Stages
 use Rattle.walk.specs.declared.Behind.{Behind}

@@ -27,7 +27,7 @@ use Rattle.walk.specs.declared.Step.{Step}
 use Rattle.walk.proofs.Nexts.{next-taken}
 
 -- what the code holds of a step, and how many bytes it takes
-step-within : (from : ℕ) (x : W.Step) (s : List ℕ) → ((y : E.Piece) (st : W.Stage) (t : List ℕ) → x ≡ W.step y st t → W.namesIn y + length t ≤ length s)
+step-within : (from : ℕ) (x : W.Step) (s : List ℕ) → ((y : E.Piece) (st : W.Stage) (t : List ℕ) → x ≡ W.step y st t → W.identifierCount y + length t ≤ length s)
     → stepOf from x .count + stepOf from x .left ≤ length s
 unfolding stepOf
 step-within from (W.step (E.piece o c p) st t) s h = h (E.piece o c p) st t refl

@@ -10,7 +10,7 @@ use Rattle.rules.specs.Bytes.{pick}
 use Rattle.rules.specs.Syntax as S
 use Rattle.rules.specs.Parse.{skip, spaces₁}
 use Rattle.rules.specs.Expansion as E
-use Rattle.rules.specs.Expansion.{majorOf, minorOf, patchOf, componentOf}
+use Rattle.rules.specs.Expansion.{majorOf, minorOf, patchOf, componentOf, partialIn}
 use Rattle.rules.specs.Answers.{partialFits}
 use Rattle.rules.specs.Walk as W
 use Rattle.lexer.specs.Views.{saturated, tooLarge}
@@ -185,9 +185,6 @@ unfolding takenRight
 takenAt m st f p w = pick (isItem st) (W.taken m f p w) (takenRight st p w)
 
 -- ---- what is promised of a step that is made of the code's partial
-
-abbrev pub partialIn : E.Piece → S.Partial
-partialIn (E.piece o c p) = p
 
 -- p and e are what the code holds of the piece x: then r is what it holds of the step of x to this stage, where left bytes are left
 pub record Steps (p : Partial) (e : Expansion) (st : Stage) (left : ℕ) (r : Step) : Type 0 where

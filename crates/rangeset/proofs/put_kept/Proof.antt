@@ -9,6 +9,7 @@ put-kept-spec =
     (tie.spec
     (λ c. search (keeping, needs))
     (λ c κs. search (keeping, needs))
+    (λ c κs. search (keeping, needs))
     (λ c. search (keeping, needs))
     (λ c. search (keeping, needs))
     (λ c. search (keeping, needs))

@@ -1,5 +1,5 @@
 use Rattle.rangeset.proofs.Putting.{Putting, putting}
-use Rattle.rangeset.proofs.Measuring.{ahead}
+use Rattle.passes.proofs.Turn.{ahead}
 use Rattle.range.specs.Views.{compatOf}
 use borrow.Author.Needs.{needs}
 use Rattle.rangeset.proofs.put_ranges.Statement.{statement}

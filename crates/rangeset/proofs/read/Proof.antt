@@ -1,4 +1,4 @@
-use Rattle.rangeset.proofs.Outcomes.{outcomes, writable}
+use Rattle.rangeset.proofs.Outcomes.{outcomes}
 use borrow.Author.Needs.{needs}
 use Rattle.rangeset.proofs.read.Statement.{statement}
 use Rattle.rangeset.proofs.read.Tie as tie
@@ -7,14 +7,13 @@ pub read-spec : {M : Type 1} → statement M
 read-spec =
     tie.close
     (tie.spec
-    (λ c. search (outcomes, needs))
     (λ c κs. search (outcomes, needs))
     (λ c. search (outcomes, needs))
     (λ c. search (outcomes, needs))
     (λ c. search (outcomes, needs))
     (λ c. search (outcomes, needs))
     (λ c. search (outcomes, needs))
-    (λ c κs. writable _ _ _ _ (c .before .before .before .before .before .before .before .before .before .before .measure .result) (search needs) (search needs) (search needs) (search needs) (search needs) (search needs) (search needs))
+    (λ c κs. search (outcomes, needs))
     (λ c. search (outcomes, needs))
     (λ c. search (outcomes, needs))
     (λ c. search (outcomes, needs)))

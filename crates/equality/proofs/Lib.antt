@@ -1,0 +1,2 @@
+pub mod Rereading
+pub mod Comparing

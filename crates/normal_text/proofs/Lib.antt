@@ -1,0 +1,5 @@
+pub mod Gaps
+pub mod Identified
+pub mod Steps
+pub mod Texts
+pub mod Calls

@@ -1,0 +1,5 @@
+pub mod Raising
+pub mod Turn
+pub mod Qualified
+pub mod Passing
+pub mod Folds

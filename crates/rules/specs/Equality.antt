@@ -1,0 +1,100 @@
+-- Two calls that are made of the others, in which requirement 3 is used: a normal text that is read again under another mode, and two texts
+-- whose readings are compared by their normal texts.
+-- Assumes nothing.
+use mathlib.Core.Path.{_≡_}
+use Prim.Native.Nat.{ℕ, _*_, _/_, _≤_}
+use mathlib.Core.Bool.{Bool, true, false, _&&_}
+use mathlib.Core.List.{List, [], _∷_}
+use lib.Dec.{eqb}
+use lib.ListN.{length, take}
+use Rattle.rules.specs.Expansion.{Compat, Reading}
+use Rattle.rules.specs.Rows.{comparatorWords, identifierWords, placelessReading}
+use Rattle.rules.specs.NormalText.{spell}
+use Rattle.rules.specs.Answers.{Answer, accepted, refused, mapAnswer, longest, reading, comparatorRows, identifierRows, readingCall, Outcome, readingOutcome, written, normalTextCall}
+use Rattle.rules.specs.ReadBack.{readBack}
+
+-- a call, and a second one with what the first hands back
+abbrev pub andThen : {A B : Type 0} → Answer A → (A → Answer B) → Answer B
+andThen (refused n) f = refused n
+andThen (accepted a) f = f a
+
+-- ---- a normal text, read again
+
+-- the normal text, and its reading
+pub record Reread : Type 0 where
+  pub text : List ℕ
+  pub reading : Reading
+
+-- the normal text of t under m, read under m′: of so many lent bytes, comparator words and identifier words
+unfoldable pub rereadCall : Compat → Compat → List ℕ → ℕ → ℕ → ℕ → Answer Reread
+unfolding normalTextCall readingCall
+rereadCall m m′ t lent cw iw = andThen (normalTextCall m t lent) (λ w. mapAnswer (λ rs. record { text = w; reading = rs }) (readingCall m′ w cw iw))
+
+-- its number and counts
+unfoldable pub rereadOutcome : Answer Reread → Outcome
+unfolding readingOutcome
+rereadOutcome a = readingOutcome (mapAnswer (λ x. x .reading) a)
+
+-- the lent bytes and words after the call; a refused one changes none
+unfoldable pub rereadBytesAfter : Answer Reread → List ℕ → List ℕ
+unfolding written
+rereadBytesAfter a old = written (λ x. x .text) a old
+
+unfoldable pub rereadComparatorsAfter : Answer Reread → List ℕ → List ℕ
+unfolding written comparatorWords
+rereadComparatorsAfter a old = written (λ x. comparatorWords (x .reading)) a old
+
+unfoldable pub rereadIdentifiersAfter : Answer Reread → List ℕ → List ℕ
+unfolding written identifierWords
+rereadIdentifiersAfter a old = written (λ x. identifierWords (length (x .text)) (x .reading)) a old
+
+-- the reading that a call hands back of the text t: by its counts, and by that many rows from the start of each slice
+unfoldable pub handedBack : List ℕ → Outcome → List ℕ → List ℕ → Reading
+unfolding readBack
+handedBack t o words ids = readBack t (take (6 * o .comparators) words) (take (3 * o .identifiers) ids)
+
+-- "a normal text of at most 65,535 bytes is accepted under either mode and gives an equal reading": wherever the lent space is enough, the
+-- reading handed back of the bytes that were written equals that of the text t
+pub record Restores (m : Compat) (t : List ℕ) (lent cw iw : ℕ) (o : Outcome) (bytes words ids : List ℕ) : Type 0 where
+  pub equal : (rs : Reading) → reading m t ≡ accepted rs → length (spell rs) ≤ longest → length (spell rs) ≤ lent
+      → comparatorRows rs ≤ cw / 6 → identifierRows rs ≤ iw / 3
+      → (o .refusal ≡ 0) × (placelessReading (handedBack (take (length (spell rs)) bytes) o words ids) ≡ placelessReading rs)
+
+-- ---- two normal texts, compared
+
+-- "equal byte by byte"
+abbrev pub sameBytes : List ℕ → List ℕ → Bool
+sameBytes [] [] = true
+sameBytes [] (d ∷ w′) = false
+sameBytes (c ∷ w) [] = false
+sameBytes (c ∷ w) (d ∷ w′) = eqb c d && sameBytes w w′
+
+pub record Texts : Type 0 where
+  pub first : List ℕ
+  pub second : List ℕ
+
+-- the normal texts of t under m and of t′ under m′: of so many bytes lent for each
+unfoldable pub textsCall : Compat → List ℕ → ℕ → Compat → List ℕ → ℕ → Answer Texts
+unfolding normalTextCall
+textsCall m t lent m′ t′ lent′ = andThen (normalTextCall m t lent) (λ w. mapAnswer (λ w′. record { first = w; second = w′ }) (normalTextCall m′ t′ lent′))
+
+-- whether they are the same
+unfoldable pub textsEqual : Answer Texts → Answer Bool
+textsEqual a = mapAnswer (λ x. sameBytes (x .first) (x .second)) a
+
+-- the bytes lent for each after the call
+unfoldable pub firstAfter : Answer Texts → List ℕ → List ℕ
+unfolding written
+firstAfter a old = written (λ x. x .first) a old
+
+unfoldable pub secondAfter : Answer Texts → List ℕ → List ℕ
+unfolding written
+secondAfter a old = written (λ x. x .second) a old
+
+-- "Two readings are equal exactly when their normal texts are equal byte by byte": wherever both texts are accepted and the lent bytes are
+-- enough, the answer is yes where the readings are equal, and no where they are not
+pub record Tells (m : Compat) (t : List ℕ) (lent : ℕ) (m′ : Compat) (t′ : List ℕ) (lent′ : ℕ) (answer : Answer Bool) : Type 0 where
+  pub equal : (rs rs′ : Reading) → reading m t ≡ accepted rs → reading m′ t′ ≡ accepted rs′ → length (spell rs) ≤ lent → length (spell rs′) ≤ lent′
+      → placelessReading rs ≡ placelessReading rs′ → answer ≡ accepted true
+  pub different : (rs rs′ : Reading) → reading m t ≡ accepted rs → reading m′ t′ ≡ accepted rs′ → length (spell rs) ≤ lent → length (spell rs′) ≤ lent′
+      → (placelessReading rs ≡ placelessReading rs′ → ⊥) → answer ≡ accepted false

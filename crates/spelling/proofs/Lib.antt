@@ -1,0 +1,5 @@
+pub mod Decimals
+pub mod Digits
+pub mod Copying
+pub mod Operators
+pub mod Triples
