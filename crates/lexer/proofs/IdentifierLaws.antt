@@ -1,27 +1,26 @@
 -- The readers of identifiers: a law for each of their ways.
 -- Assumes nothing.
-use Prim.Native.Nat.{ℕ, suc, _+_, _-_, _<_, _≤_}
+use Prim.Native.Nat.{ℕ, _+_, _-_, _<_, _≤_}
 use mathlib.Core.Path.{_≡_, refl, _∙_, sym, ap}
-use mathlib.Core.List.{List, [], _∷_, _++_}
+use mathlib.Core.List.{List, [], _∷_}
 use mathlib.Core.Bool.{Bool, true, false, not, _||_}
 use native.Mathlib.Omega.{arith}
 use borrow.Author.Tests.{eq-eqb, ne-eqb}
 use lib.Dec.{leb, eqb}
 use native.Mathlib.Numerals.{add-one}
-use lib.ListN.{length, getD, take, drop, length-drop, length-append, drop-of-length-le}
+use lib.ListN.{length, getD, take, drop, drop-of-length-le}
 use lib.Seq.{drop-cons}
-use Rattle.rules.specs.Bytes.{bytes, isLetter, isWord, isDigit, isSign, value, largest, pick}
+use Rattle.rules.specs.Bytes.{isLetter, isWord, isSign, value, largest, pick}
 use Rattle.rules.specs.Syntax as S
 use Rattle.rules.specs.Syntax.{ofDigits}
 use Rattle.rules.specs.Grammar.{OneOf}
-use Rattle.rules.specs.Parse.{Result, fail, ok, _then_, choose, many, all, oneOf, count, run, literal, leftOf, readNumber, readIdentifier, readDotIdentifier, readIdentifiers, readQualifier}
+use Rattle.rules.specs.Parse.{Result, fail, ok, _then_, choose, all, oneOf, count, run, literal, leftOf, readNumber, readIdentifier, readDotIdentifier, readIdentifiers, readQualifier}
 use Rattle.rules.proofs.Complete.{letter-number}
-use Rattle.rules.proofs.Results.{Gives, nothing, gives, gives-map, gives-then}
-use Rattle.rules.proofs.Left.{Behind, behind-left, rest-in, count-within, number-behind, identifier-behind, dotIdentifier-behind, identifiers-behind, qualifier-behind, many-behind, Took, took, failed, left-within}
+use Rattle.rules.proofs.Results.{Gives, gives, gives-map}
+use Rattle.rules.proofs.Left.{Behind, behind-left, rest-in, number-behind, identifier-behind, dotIdentifier-behind, identifiers-behind, qualifier-behind, left-within}
 use Rattle.rules.proofs.Heads.{one-empty, one-yes, one-not, lead-empty, lead-not, lead-none, lead-some}
-use Rattle.rules.proofs.Repeat.{Repeated, repeat-none, repeat-stop, repeat-more, repeat-fewer, again, many-answers}
 use Rattle.lexer.specs.Views.{rest, startsWith, numberOf, identifierOf, identifiersOf}
-use Rattle.lexer.proofs.Numbers.{number-left}
+use Rattle.lexer.proofs.Counting.{found, found-within, Rest, countings, series-one, series-none, series-some}
 use Rattle.lexer.specs.declared.Number.{Number}
 use Rattle.lexer.specs.declared.Identifier.{Identifier}
 use Rattle.lexer.specs.declared.Identifiers.{Identifiers}
@@ -75,17 +74,17 @@ pub ruleset skipped = (skipped-empty, skipped-word, skipped-number, skipped-with
 
 -- ---- read_identifier
 
-abbrev textual : ℕ → Identifier
+abbrev pub textual : ℕ → Identifier
 textual l = record { number = false; value = 0; left = l }
 
-abbrev numeric : ℕ → ℕ → Identifier
+abbrev pub numeric : ℕ → ℕ → Identifier
 numeric v l = record { number = true; value = v; left = l }
 
 -- what the code makes of a number that stands before l bytes
-abbrev fromNumber : ℕ → Number → Identifier
+abbrev pub fromNumber : ℕ → Number → Identifier
 fromNumber l n = pick (n .large || eqb (n .left) l) (textual (n .left)) (numeric (n .value) (n .left))
 
-from-number : (s : List ℕ) (g : Result (List ℕ)) → Gives (λ w. Behind 1 s) g
+pub from-number : (s : List ℕ) (g : Result (List ℕ)) → Gives (λ w. Behind 1 s) g
     → fromNumber (length s) (numberOf s g) ≡ identifierOf s (choose g (λ w r. ok (ofDigits (length s) w) r) fail)
 unfolding numberOf identifierOf choose ofDigits
 from-number s fail k = rw (eq-eqb (length s) (length s) refl)
@@ -149,58 +148,9 @@ pub ruleset dots = (dot-empty, dot-within, dot-not, dot-none, dot-some)
 
 -- ---- skip_dotted
 
--- where left bytes are left, count identifiers were found
-pub record Dotted (s : List ℕ) (count left : ℕ) : Type 0 where
-  pub done : List S.Identifier
-  pub counted : length done ≡ count
-  pub loop : Repeated readDotIdentifier s left done
-
-module _ (s : List ℕ) where
-  pub dotted-none : Dotted s 0 (length s)
-  dotted-none = record { done = []; counted = refl; loop = repeat-none readDotIdentifier dotIdentifier-behind s }
-
-  module _ (count left : ℕ) (h : Dotted s count left) where
-    pub dotted-few : count + left ≤ length s
-    dotted-few = omega (arith, h .counted, h .loop .few)
-
-    pub dotted-within : left ≤ length s
-    dotted-within = omega (arith, dotted-few)
-
-    module _ (n : ℕ) (q : n ≡ leftOf (take (length s - (length s - left)) (drop (length s - left) s)) (readDotIdentifier (take (length s - (length s - left)) (drop (length s - left) s)))) where
-      is-left : n ≡ leftOf (drop (length s - left) s) (readDotIdentifier (drop (length s - left) s))
-      is-left = rw (rest-in s (length s - left)) at q
-
-      pub dotted-stop : n ≡ left → record { count = count; left = left } ≡ identifiersOf s (all readDotIdentifier s)
-      unfolding identifiersOf
-      dotted-stop e =
-          let l : length (drop (length s - left) s) ≡ left = omega (arith, dotted-within, length-drop (length s - left) s) in
-          rw (repeat-stop readDotIdentifier dotIdentifier-behind s left (h .done) (h .loop) n is-left e, h .counted, l)
-
-      pub dotted-fewer : (n ≡ left → ⊥) → n < left
-      dotted-fewer z = repeat-fewer readDotIdentifier dotIdentifier-behind s left (h .done) (h .loop) n is-left z
-
-      pub dotted-more : (n ≡ left → ⊥) → Dotted s (count + 1) n
-      dotted-more z =
-          let c = h .counted in
-          record {
-            done = h .done ++ (again readDotIdentifier dotIdentifier-behind s left (h .done) (h .loop) n is-left z .answer ∷ []);
-            counted = simp length-append (omega arith);
-            loop = repeat-more readDotIdentifier dotIdentifier-behind s left (h .done) (h .loop) n is-left z;
-          }
-
-pub ruleset dotteds = (dotted-none, dotted-few, dotted-within, dotted-stop, dotted-fewer, dotted-more)
+pub ruleset dotteds = (countings, dotIdentifier-behind)
 
 -- ---- skip_identifiers
-
-abbrev found : ℕ → ℕ → Identifiers
-found k l = record { count = k; left = l }
-
--- what is counted and what is left is within the text
-pub found-within : {A : Type 0} (s : List ℕ) (g : Result (List A)) → Gives (λ l. Behind (length l) s) g → (j : Identifiers) → j ≡ identifiersOf s g
-    → j .count + j .left ≤ length s
-unfolding identifiersOf
-found-within s fail h j e = rw e (omega arith)
-found-within s (ok l r) (gives h) j e = rw e (omega (arith, behind-left h))
 
 module _ (s : List ℕ) where
   pub identifiers-within : (j : Identifiers) → j ≡ identifiersOf s (readIdentifiers s) → j .count + j .left ≤ length s
@@ -208,20 +158,13 @@ module _ (s : List ℕ) where
 
   module _ (n : ℕ) where
     pub identifiers-none : n ≡ length s → n ≡ leftOf s (readIdentifier s) → found 0 n ≡ identifiersOf s (readIdentifiers s)
-    unfolding readIdentifiers _then_ identifiersOf
-    identifiers-none e q = rw (failed (identifier-behind s) n q e, e)
+    unfolding readIdentifiers
+    identifiers-none e q = series-none readIdentifier readDotIdentifier s n identifier-behind q e
 
-    pub identifiers-some : (d : Identifiers)
-        → d ≡ identifiersOf (take (length s - (length s - n)) (drop (length s - n) s)) (all readDotIdentifier (take (length s - (length s - n)) (drop (length s - n) s)))
-        → n ≡ leftOf s (readIdentifier s) → (n ≡ length s → ⊥) → found (1 + d .count) (d .left) ≡ identifiersOf s (readIdentifiers s)
-    unfolding readIdentifiers _then_ identifiersOf
-    identifiers-some d p q z =
-        let t = took (identifier-behind s) n q z in
-        let u = drop (length s - n) s in
-        let x = many-answers readDotIdentifier (length u) u in
-        let e : d ≡ found (length (x .0)) (length (x .1)) = rw (rest-in s (length s - n), x .2) at p in
-        let k : 1 + length (x .0) ≡ suc (length (x .0)) = omega arith in
-        rw (e, t .is, x .2, k)
+    pub identifiers-some : (d : Identifiers) → d ≡ identifiersOf (Rest s n) (all readDotIdentifier (Rest s n)) → n ≡ leftOf s (readIdentifier s) → (n ≡ length s → ⊥)
+        → found (1 + d .count) (d .left) ≡ identifiersOf s (readIdentifiers s)
+    unfolding readIdentifiers
+    identifiers-some d p q z = series-some readIdentifier readDotIdentifier s n identifier-behind q d p z
 
 pub ruleset identifier-lists = (identifiers-within, identifiers-none, identifiers-some)
 
@@ -229,7 +172,7 @@ pub ruleset identifier-lists = (identifiers-within, identifiers-none, identifier
 
 identifiers-one : (s : List ℕ) → Gives (λ is r. 1 ≤ length is) (readIdentifiers s)
 unfolding readIdentifiers
-identifiers-one s = gives-then (identifier-behind s) λ i t h. gives-then (many-behind readDotIdentifier dotIdentifier-behind (length t) t) λ is r k. gives (omega arith)
+identifiers-one s = series-one readIdentifier readDotIdentifier s identifier-behind dotIdentifier-behind
 
 module _ (s : List ℕ) where
   pub qualifier-within : (j : Identifiers) → j ≡ identifiersOf s (readQualifier s) → j .count + j .left ≤ length s

@@ -17,8 +17,7 @@ use Rattle.lexer.specs.declared.Identifiers.{Identifiers}
 use Rattle.walk.specs.declared.Step.{Step}
 use Rattle.rows.specs.Put.{Put}
 use Rattle.rows.proofs.Puts.{put-one, put-then, put-same}
-use Rattle.passes.specs.Views.{stepIdentifiers}
-use Rattle.normal_text.specs.Views.{Known}
+use Rattle.passes.specs.Views.{stepIdentifiers, Known}
 
 abbrev dotted : List Identifier → List ℕ
 dotted is = joined spellIdentifier (bytes ".") is

@@ -21,8 +21,8 @@ use Rattle.rows.specs.Put.{Put}
 use Rattle.rows.proofs.Puts.{put-then, put-same}
 use Rattle.spelling.specs.Views.{spelledTriple}
 use Rattle.spelling.proofs.Triples.{comparator-spelled}
-use Rattle.passes.specs.Views.{raisedCount, keptWith, raisedTo, comparatorOf, keptGives, raisedGives, stepGives, stepIdentifiers, Raisable}
-use Rattle.normal_text.specs.Views.{gapOf, gapKept, behindGap, Known}
+use Rattle.passes.specs.Views.{raisedCount, keptWith, raisedTo, comparatorOf, keptGives, raisedGives, stepGives, stepIdentifiers, Raisable, Known}
+use Rattle.normal_text.specs.Views.{gapOf, gapKept, behindGap}
 use Rattle.normal_text.specs.declared.Gap.{Gap}
 
 -- ---- after_len, put_after

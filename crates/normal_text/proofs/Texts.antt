@@ -28,11 +28,11 @@ use Rattle.walk.specs.declared.Stage.the-variants as Stages
 use Rattle.walk.specs.declared.Step.{Step}
 use Rattle.rows.specs.Put.{Put}
 use Rattle.rows.proofs.Puts.{put-onto, Begins, begins-length, Writing, writing-start, writing-put, writing-next, writing-end}
-use Rattle.passes.specs.Views.{Accepts, keptCount, raisedCount, keptGives, raisedGives, stepGives, stepIdentifiers}
+use Rattle.passes.specs.Views.{Accepts, keptCount, raisedCount, keptGives, raisedGives, stepGives, stepIdentifiers, Known}
 use Rattle.passes.proofs.Turn.{ahead}
-use Rattle.passes.proofs.Passing.{Passing, starting, Passes, passes, passes-fewer, passing-end}
+use Rattle.passes.proofs.Passing.{Passing, starting, Passes, passes, passes-fewer, passing-end, known}
 use Rattle.passes.proofs.Folds.{todo, nextAt, todo-next, todo-end, todo-push}
-use Rattle.normal_text.specs.Views.{gapOf, gapBehind, gapTo, Known}
+use Rattle.normal_text.specs.Views.{gapOf, gapBehind, gapTo}
 use Rattle.normal_text.specs.declared.Gap.{Gap}
 use Rattle.normal_text.specs.declared.Gap.the-variants as Gap
 
@@ -71,9 +71,6 @@ module _ {m : E.Compat} {s : List ℕ} {stage : Stage} {left : ℕ} (g : Passing
   module _ (t : goesOn (stageOf stage) ≡ true) (x : Step) (e : x ≡ stepAt m (stageOf stage) (Rest s left)) where
     here : Passes g x
     here = passes g t x e
-
-    known : length s ≤ longest → Known s x
-    known l = record { raisable = here .raisable; signed = here .signed; counted = here .count ∙ ap length (sym (here .identifiers)); short = l }
 
     -- what is to come behind the step
     abbrev later : List ℕ
@@ -142,7 +139,7 @@ module _ (m : E.Compat) (s : List ℕ) where
   module _ (len : ℕ) (gap : Gap) (stage : Stage) (left : ℕ) (g : Counting m s len gap stage left) (y : Bool) (q : y ≡ goesOn (stageOf stage)) where
     module _ (t : y ≡ true) (x : Step) (e : x ≡ stepAt m (stageOf stage) (Rest s left)) where
       pub counting-known : Known s x
-      counting-known = known (g .pass) gap (sym q ∙ t) x e (g .short)
+      counting-known = known (g .pass) (sym q ∙ t) x e (g .short)
 
       pub counting-fewer : ahead (x .stage) (x .left) < ahead stage left
       counting-fewer = passes-fewer (g .pass) (sym q ∙ t) x e
@@ -206,7 +203,7 @@ module _ (m : E.Compat) (s start : List ℕ) where
   module _ (out : List ℕ) (at : ℕ) (gap : Gap) (stage : Stage) (left : ℕ) (g : Putting m s start out at gap stage left) (y : Bool) (q : y ≡ goesOn (stageOf stage)) where
     module _ (t : y ≡ true) (x : Step) (e : x ≡ stepAt m (stageOf stage) (Rest s left)) where
       pub putting-known : Known s x
-      putting-known = known (g .pass) gap (sym q ∙ t) x e (g .short)
+      putting-known = known (g .pass) (sym q ∙ t) x e (g .short)
 
       pub putting-fewer : ahead (x .stage) (x .left) < ahead stage left
       putting-fewer = passes-fewer (g .pass) (sym q ∙ t) x e

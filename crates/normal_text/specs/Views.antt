@@ -1,12 +1,10 @@
--- What the code of the normal text knows of what stands between comparators and of a step, and what it hands back.
+-- What the code of the normal text knows of what stands between comparators, and what it hands back.
 -- Assumes nothing.
-use Prim.Native.Nat.{ℕ, _≤_}
-use mathlib.Core.Path.{_≡_}
+use Prim.Native.Nat.{ℕ}
 use mathlib.Core.List.{List, _++_}
 use lib.Dec.{eqb}
-use lib.ListN.{length}
 use Rattle.rules.specs.Bytes.{pick}
-use Rattle.rules.specs.Answers.{longest, Length}
+use Rattle.rules.specs.Answers.{Length}
 use Rattle.rules.specs.Walk as W
 use Rattle.rules.specs.Walk.{spellGap}
 use Rattle.partial.specs.declared.Comparator.{Comparator}
@@ -14,7 +12,7 @@ use Rattle.range.specs.declared.Kept.{Kept}
 use Rattle.range.specs.declared.Kept.the-variants as Kept
 use Rattle.spelling.specs.Views.{spelledTriple}
 use Rattle.walk.specs.declared.Step.{Step}
-use Rattle.passes.specs.Views.{comparatorCountOf, stepIdentifiers, Signed, Raisable}
+use Rattle.passes.specs.Views.{comparatorCountOf}
 use Rattle.rangeset.specs.Views.{numberOf}
 use Rattle.normal_text.specs.declared.Gap.{Gap}
 use Rattle.normal_text.specs.declared.Gap.the-variants as Gap
@@ -50,15 +48,6 @@ gapTo W.bad g = g
 -- a comparator without its identifiers, behind a gap
 unfoldable pub behindGap : W.Gap → Comparator → List ℕ
 behindGap g c = spellGap g ++ spelledTriple c
-
--- ---- a step
-
--- What a pass over the accepted text s knows of a step.
-pub record Known (s : List ℕ) (x : Step) : Type 0 where
-  pub raisable : Raisable (x .raised) x
-  pub signed : Signed s x
-  pub counted : x .count ≡ length (stepIdentifiers s x)
-  pub short : length s ≤ longest
 
 -- ---- the answer
 

@@ -8,9 +8,9 @@ ghost use Rattle.rules.specs.Answers.{normalText, normalTextCall, normalTextOut
 ghost use Rattle.rules.specs.Walk.{spellGap, spellAfter};
 ghost use Rattle.range.specs.Views.{compatOf};
 ghost use Rattle.rows.specs.Put.{Put};
-ghost use Rattle.passes.specs.Views.{keptGives, raisedGives, stepGives, stepIdentifiers, Raisable, Accepts};
+ghost use Rattle.passes.specs.Views.{keptGives, raisedGives, stepGives, stepIdentifiers, Raisable, Accepts, Known};
 ghost use Rattle.walk.specs.Views.{stageOf};
-ghost use Rattle.normal_text.specs.Views.{gapOf, gapKept, gapBehind, gapTo, behindGap, Known, lengthOf};
+ghost use Rattle.normal_text.specs.Views.{gapOf, gapKept, gapBehind, gapTo, behindGap, lengthOf};
 use lexer::skip_identifiers;
 use partial::Comparator;
 use passes::comparator_count;

@@ -318,20 +318,20 @@ unfolding readPartial _then_
 start-join s t v d = rw d (sym (one-large v s t t (fromOne t)))
 
 -- the code's number, and the digits that were read
-record Numbered (s : List ℕ) (g : Result (List ℕ)) (n : Number) : Type 0 where
-  digits : List ℕ
-  is : g ≡ ok digits (drop (length s - n .left) s)
-  value-is : n .value ≡ saturated (value digits)
-  large-is : n .large ≡ tooLarge (value digits)
+pub record Numbered (s : List ℕ) (g : Result (List ℕ)) (n : Number) : Type 0 where
+  pub digits : List ℕ
+  pub is : g ≡ ok digits (drop (length s - n .left) s)
+  pub value-is : n .value ≡ saturated (value digits)
+  pub large-is : n .large ≡ tooLarge (value digits)
 
-numbered : (s : List ℕ) (g : Result (List ℕ)) → Gives (λ w. Behind 1 s) g → (n : Number) → n ≡ numberOf s g → (n .left ≡ length s → ⊥) → Numbered s g n
+pub numbered : (s : List ℕ) (g : Result (List ℕ)) → Gives (λ w. Behind 1 s) g → (n : Number) → n ≡ numberOf s g → (n .left ≡ length s → ⊥) → Numbered s g n
 unfolding numberOf
 numbered s g b n e z =
     let t = took b (n .left) (ap (λ x. x .left) e ∙ number-left s g) z in
     let p : n ≡ numberOf s (ok (t .answer) (drop (length s - n .left) s)) = e ∙ ap (numberOf s) (t .is) in
     record { digits = t .answer; is = t .is; value-is = ap (λ x. x .value) p; large-is = ap (λ x. x .large) p }
 
-unnumbered : (s : List ℕ) (g : Result (List ℕ)) → Gives (λ w. Behind 1 s) g → (n : Number) → n ≡ numberOf s g → n .left ≡ length s → g ≡ fail
+pub unnumbered : (s : List ℕ) (g : Result (List ℕ)) → Gives (λ w. Behind 1 s) g → (n : Number) → n ≡ numberOf s g → n .left ≡ length s → g ≡ fail
 unnumbered s g b n e z = failed b (n .left) (ap (λ x. x .left) e ∙ number-left s g) z
 
 module _ (s : List ℕ) (large : Bool) (n : Number) where

@@ -17,6 +17,7 @@ use Rattle.rules.proofs.Follows.{number-stops, passes}
 use Rattle.rules.proofs.Left.{Behind, behind-both, rest-in, literal-behind, one-behind, number-behind, component-behind, dot-behind, afterTwo-behind, afterOne-behind, Took, took, failed, left-within}
 use Rattle.rules.proofs.Heads.{one-empty, one-yes, one-not, lead-empty, lead-not, lead-none, lead-some}
 use Rattle.lexer.specs.Views.{identifiersOf}
+pub use Rattle.lexer.proofs.Counting.{Rest}
 use Rattle.lexer.specs.declared.Identifiers.{Identifiers}
 use Rattle.partial.specs.Views.{readDotWildcard, wildThird, wildSecond, wildFirst}
 
@@ -150,10 +151,6 @@ two-left c d s t = go (readDot t) refl
     go : (g : Result (Option ℕ)) → readDot t ≡ g → leftOf t (afterTwo none none t) ≡ leftOf s (afterTwo c d t)
     go fail e = rw (afterTwo, e)
     go (ok x u) e = let y = qualifier-answers u in rw (afterTwo, e, afterThree, y .2)
-
--- what is left of s behind its first n bytes less, as a slice states it
-abbrev pub Rest : List ℕ → ℕ → List ℕ
-Rest s n = take (length s - (length s - n)) (drop (length s - n) s)
 
 module _ (s : List ℕ) where
   pub two-within : (n : ℕ) → n ≡ leftOf s (afterTwo none none s) → n ≤ length s

@@ -335,7 +335,7 @@ fn skip_first(s: &[u8]) -> usize
 // ---- a partial: each component that is a number is read, up to the first that is none
 
 // A dot and a number.
-fn read_dot_number(s: &[u8]) -> Number
+pub fn read_dot_number(s: &[u8]) -> Number
     ensures { λ r. ⌜ r ≡ numberOf (now (s .entry)) (readDotNumber (now (s .entry))) ⌝ }
     ensures within { λ r. ⌜ r .left ≤ length (now (s .entry)) ⌝ }
 {

@@ -10,7 +10,7 @@ use borrow.Author.Tests.{leb-true, ne-eqb, not-false}
 use lib.Dec.{eqb}
 use lib.ListN.{length, drop, length-drop}
 use lib.Seq.{drop-drop}
-use Rattle.rules.specs.Lists.{concat}
+use Rattle.rules.specs.Lists.{concat, someOf}
 use Rattle.rules.specs.Bytes.{pick, largest}
 use Rattle.rules.specs.Syntax as S
 use Rattle.rules.specs.Syntax.{identifiersOf}
@@ -19,7 +19,7 @@ use Rattle.rules.specs.Expansion as E
 use Rattle.rules.specs.Expansion.{majorOf, minorOf, patchOf, Piece, piece, partialIn, comparators, asRead, raised, expandRange, pieces, expand}
 use Rattle.rules.specs.Answers.{accepted, reading, longest, fits, partialFits}
 use Rattle.rules.specs.Walk as W
-use Rattle.rules.specs.Walk.{Walks, goesOn, opening, push, mapOption, someOf, identifierCount, largeIn, overIn}
+use Rattle.rules.specs.Walk.{Walks, goesOn, opening, push, mapOption, identifierCount, largeIn, overIn}
 use Rattle.rules.proofs.Follows.{both}
 use Rattle.rules.proofs.Accepted.{Accepted, reads, reading-accepted}
 use Rattle.rules.proofs.Complete.{complete}
@@ -34,7 +34,7 @@ use Rattle.walk.specs.Views.{stageOf, stepOf, stepAt, partialText}
 use Rattle.walk.specs.declared.Stage.{Stage}
 use Rattle.walk.specs.declared.Stage.the-variants as Stages
 use Rattle.walk.specs.declared.Step.{Step}
-use Rattle.passes.specs.Views.{isEnd, keptGives, raisedGives, stepGives, stepIdentifiers, Signed, Raisable}
+use Rattle.passes.specs.Views.{isEnd, keptGives, raisedGives, stepGives, stepIdentifiers, Signed, Raisable, Known}
 use Rattle.passes.proofs.Turn.{concat-push, concat-opening, ahead, ended, failed, Turn, turn}
 use Rattle.passes.proofs.Qualified.{step-found, step-sign, step-from}
 
@@ -311,6 +311,9 @@ module _ {m : E.Compat} {s : List ℕ} {stage : Stage} {left : ℕ} (g : Passing
           now = here .now;
           fewer = here .fewer;
         }
+
+    pub known : length s ≤ longest → Known s x
+    known l = record { raisable = passes .raisable; signed = passes .signed; counted = passes .count ∙ ap length (sym (passes .identifiers)); short = l }
 
     pub passes-fewer : ahead (x .stage) (x .left) < ahead stage left
     passes-fewer = omega (arith, here .fewer, here .now)

@@ -10,7 +10,7 @@ use Rattle.rules.specs.Bytes.{largest, pick}
 use Rattle.rules.specs.Syntax as S
 use Rattle.rules.specs.Parse.{foundIn}
 use Rattle.rules.specs.Expansion as E
-use Rattle.rules.specs.Answers.{accepted, reading}
+use Rattle.rules.specs.Answers.{accepted, longest, reading}
 use Rattle.rules.specs.Walk.{Stage, item, range, right, only, end, bad}
 use Rattle.partial.specs.Views.{opOf}
 use Rattle.partial.specs.declared.Op.{Op}
@@ -117,3 +117,11 @@ raisedGives Raised.Nothing x = []
 unfoldable pub stepGives : List ℕ → Step → List E.Comparator
 unfolding stepIdentifiers
 stepGives s x = keptGives (x .kept) x (stepIdentifiers s x) ++ raisedGives (x .raised) x
+
+-- ---- what a pass over the accepted text s knows of a step
+
+pub record Known (s : List ℕ) (x : Step) : Type 0 where
+  pub raisable : Raisable (x .raised) x
+  pub signed : Signed s x
+  pub counted : x .count ≡ length (stepIdentifiers s x)
+  pub short : length s ≤ longest

@@ -7,12 +7,12 @@ use mathlib.Core.Bool.{Bool, true, false, _||_}
 use mathlib.Core.Option.{Option, none, some}
 use native.Mathlib.Omega.{arith}
 use lib.ListN.{length, drop}
-use Rattle.rules.specs.Lists.{concat}
+use Rattle.rules.specs.Lists.{concat, someOf}
 use Rattle.rules.specs.Parse.{readText}
 use Rattle.rules.specs.Expansion as E
 use Rattle.rules.specs.Expansion.{Piece}
 use Rattle.rules.specs.Walk as W
-use Rattle.rules.specs.Walk.{Walks, goesOn, opening, push, mapOption, walkOf, total, someOf, comparatorCount, identifierCount, largeIn, overIn, tally}
+use Rattle.rules.specs.Walk.{Walks, goesOn, opening, push, mapOption, walkOf, total, comparatorCount, identifierCount, largeIn, overIn, tally}
 use Rattle.rules.proofs.WalkLaws.{text-walk}
 use Rattle.partial.proofs.Unread.{Rest}
 use Rattle.walk.specs.Views.{stageOf, stepAt}

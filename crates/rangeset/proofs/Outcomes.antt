@@ -114,6 +114,8 @@ refusal-number Refusals.Over e = omega arith
 refusal-number Refusals.ComparatorsShort e = omega arith
 refusal-number Refusals.IdentifiersShort e = omega arith
 refusal-number Refusals.BytesShort e = omega arith
+refusal-number Refusals.NoVersion e = omega arith
+refusal-number Refusals.VersionTooLarge e = omega arith
 
 pub counted-reading : (m : Compat) (s : List ℕ) (c : Counts) → outcomeOf (R.Accepted c) ≡ readingOutcome (reading m s) → Counted m s c
 unfolding readingOutcome

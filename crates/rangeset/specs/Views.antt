@@ -77,6 +77,8 @@ numberOf Refusal.Over = 4
 numberOf Refusal.ComparatorsShort = 5
 numberOf Refusal.IdentifiersShort = 6
 numberOf Refusal.BytesShort = 7
+numberOf Refusal.NoVersion = 8
+numberOf Refusal.VersionTooLarge = 9
 
 -- 01's number and counts: "A refused call hands back its number and zero counts"
 abbrev pub outcomeOf : Reading → Outcome

@@ -90,6 +90,8 @@ pub enum Refusal {
     ComparatorsShort,
     IdentifiersShort,
     BytesShort,
+    NoVersion,
+    VersionTooLarge,
 }
 
 impl Refusal {
@@ -105,6 +107,8 @@ impl Refusal {
             Refusal::ComparatorsShort => 5,
             Refusal::IdentifiersShort => 6,
             Refusal::BytesShort => 7,
+            Refusal::NoVersion => 8,
+            Refusal::VersionTooLarge => 9,
         }
     }
 }

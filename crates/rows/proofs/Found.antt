@@ -26,12 +26,12 @@ use Rattle.rows.specs.Views.{wordsOf, identifierRows}
 -- ---- a reader as often as it succeeds: the bound does not matter
 
 module _ {A : Type 0} (f : List ℕ → Result A) (behind : (s : List ℕ) → Gives (λ a. Behind 1 s) (f s)) where
-  many-none : (k : ℕ) (s : List ℕ) → f s ≡ fail → many f k s ≡ ok [] s
+  pub many-none : (k : ℕ) (s : List ℕ) → f s ≡ fail → many f k s ≡ ok [] s
   unfolding many choose
   many-none zero s e = refl
   many-none (suc k) s e = rw e
 
-  none-empty : (s : List ℕ) → length s ≡ 0 → f s ≡ fail
+  pub none-empty : (s : List ℕ) → length s ≡ 0 → f s ≡ fail
   none-empty s z = go (f s) (behind s)
     where
       go : (g : Result A) → Gives (λ a. Behind 1 s) g → g ≡ fail
@@ -55,7 +55,7 @@ module _ {A : Type 0} (f : List ℕ → Result A) (behind : (s : List ℕ) → G
           let w = behind-left b in
           many-more j s t a e ∙ ap (λ g. g then λ l r. ok (a ∷ l) r) (i t (omega arith) (omega arith)) ∙ sym (many-more k s t a e)
 
-  all-more : (s t : List ℕ) (a : A) → f s ≡ ok a t → Behind 1 s t → all f s ≡ (all f t then λ l r. ok (a ∷ l) r)
+  pub all-more : (s t : List ℕ) (a : A) → f s ≡ ok a t → Behind 1 s t → all f s ≡ (all f t then λ l r. ok (a ∷ l) r)
   all-more s t a e b = go (length s) (behind-left b)
     where
       go : (n : ℕ) → 1 + length t ≤ n → many f n s ≡ (all f t then λ l r. ok (a ∷ l) r)

@@ -28,7 +28,7 @@ pub record Storing (s : List ℕ) (place : ℕ) (start now : List ℕ) (from at 
 
 -- ---- one identifier
 
-identifier-left : (s : List ℕ) (g : Result S.Identifier) → identifierOf s g .left ≡ leftOf s g
+pub identifier-left : (s : List ℕ) (g : Result S.Identifier) → identifierOf s g .left ≡ leftOf s g
 unfolding identifierOf
 identifier-left s fail = refl
 identifier-left s (ok (S.number v) r) = refl

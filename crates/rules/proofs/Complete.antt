@@ -26,7 +26,7 @@ pub literal-left : {w s r : List ℕ} → Literal w s r → length s ≡ length 
 literal-left G.done = omega arith
 literal-left (G.byte k) = let h = literal-left k in omega arith
 
-run-left : {p : ℕ → Bool} {s w r : List ℕ} → Run p s w r → length r ≤ length s
+pub run-left : {p : ℕ → Bool} {s w r : List ℕ} → Run p s w r → length r ≤ length s
 run-left Run.stop = omega arith
 run-left (Run.more e k) = let h = run-left k in omega arith
 
@@ -34,7 +34,7 @@ pub spaces-left : {s r : List ℕ} → Spaces s r → length r ≤ length s
 spaces-left G.no-space = omega arith
 spaces-left (G.space e k) = let h = spaces-left k in omega arith
 
-number-left : {s w r : List ℕ} → ReadsNumber s w r → length r < length s
+pub number-left : {s w r : List ℕ} → ReadsNumber s w r → length r < length s
 number-left (ReadsNumber.zero b) = let h = literal-left b in omega arith
 number-left (G.digits o k) = omega (arith, one-left o, run-left k)
 
@@ -54,7 +54,7 @@ component-left (G.wildcard o) = omega (arith, one-left o)
 component-left (ReadsComponent.number n) = number-left n
 
 -- a piece that takes a byte at least is not found more often than there are bytes
-many-left : {A : Type 0} {P : List ℕ → A → List ℕ → Type 0} → ((s r : List ℕ) (a : A) → P s a r → length r < length s)
+pub many-left : {A : Type 0} {P : List ℕ → A → List ℕ → Type 0} → ((s r : List ℕ) (a : A) → P s a r → length r < length s)
     → {s r : List ℕ} {l : List A} → Many P s l r → length l + length r ≤ length s
 many-left h Many.stop = omega arith
 many-left h (Many.more p k) = let x = h _ _ _ p in let y = many-left h k in omega arith
@@ -98,7 +98,7 @@ further-left (G.further (Separator.separator k b l) a) = omega (arith, spaces-le
 
 -- ---- bytes
 
-one-read : {p : ℕ → Bool} {s t : List ℕ} {c : ℕ} → OneOf p s c t → oneOf p s ≡ ok c t
+pub one-read : {p : ℕ → Bool} {s t : List ℕ} {c : ℕ} → OneOf p s c t → oneOf p s ≡ ok c t
 unfolding oneOf
 one-read (OneOf.one e) = rw e
 
@@ -107,16 +107,16 @@ unfolding oneOf
 one-fails p [] h = refl
 one-fails p (c ∷ s) h = rw h
 
-literal-read : {w s r : List ℕ} → Literal w s r → literal w s ≡ ok tt r
+pub literal-read : {w s r : List ℕ} → Literal w s r → literal w s ≡ ok tt r
 unfolding literal
 literal-read G.done = refl
 literal-read (G.byte {c} k) = rw (eq-eqb c c refl) (literal-read k)
 
 -- the text does not go on with the byte b
-abbrev Lacks : ℕ → List ℕ → Type 0
+abbrev pub Lacks : ℕ → List ℕ → Type 0
 Lacks b s = Stops (λ c. eqb c b) s
 
-literal-fails : (b : ℕ) (w s : List ℕ) → Lacks b s → literal (b ∷ w) s ≡ fail
+pub literal-fails : (b : ℕ) (w s : List ℕ) → Lacks b s → literal (b ∷ w) s ≡ fail
 unfolding literal
 literal-fails b w [] h = refl
 literal-fails b w (c ∷ s) h = rw h
@@ -126,7 +126,7 @@ unfolding run count
 run-none p [] h = refl
 run-none p (c ∷ s) h = rw h
 
-run-read : {p : ℕ → Bool} {s w r : List ℕ} → Run p s w r → Stops p r → run p s ≡ ok w r
+pub run-read : {p : ℕ → Bool} {s w r : List ℕ} → Run p s w r → Stops p r → run p s ≡ ok w r
 unfolding run count _then_
 run-read {p} {r} Run.stop h = run-none p r h
 run-read (Run.more {c} e k) h = rw e (ap (λ g. g then λ w r. ok (c ∷ w) r) (run-read k h))
@@ -150,7 +150,7 @@ spaces₁-read (G.spaces₁ o k) = rw (one-read o, skip-spaces k)
 
 -- ---- numbers, components, identifiers
 
-number-read : {s w r : List ℕ} → ReadsNumber s w r → Stops isDigit r → readNumber s ≡ ok w r
+pub number-read : {s w r : List ℕ} → ReadsNumber s w r → Stops isDigit r → readNumber s ≡ ok w r
 unfolding readNumber _then_ choose passes
 number-read (ReadsNumber.zero b) h = rw (literal-read b)
 number-read {s} (G.digits o k) h = rw (literal-fails 48 [] s (nonzero-stops _ refl o), one-read o, run-read k h)
@@ -178,7 +178,7 @@ unfolding readIdentifier _then_ choose
 identifier-read {r} (ReadsIdentifier.number n) h = rw (number-read n (word-digit r h))
 identifier-read (G.word o k) h = rw (letter-number o, one-read o, run-read k h)
 
-dot-word : {s t : List ℕ} → Literal (bytes ".") s t → Stops isWord s
+pub dot-word : {s t : List ℕ} → Literal (bytes ".") s t → Stops isWord s
 unfolding isLetter isDigit
 dot-word (G.byte k) = refl
 
@@ -192,7 +192,7 @@ dots-word (Many.more (G.dot b i) k) e = dot-word b
 
 -- ---- a reader as often as it succeeds
 
-many-fails : {A : Type 0} (f : List ℕ → Result A) (k : ℕ) (s : List ℕ) → f s ≡ fail → many f k s ≡ ok [] s
+pub many-fails : {A : Type 0} (f : List ℕ → Result A) (k : ℕ) (s : List ℕ) → f s ≡ fail → many f k s ≡ ok [] s
 unfolding many choose
 many-fails f zero s e = refl
 many-fails f (suc k) s e = rw e
@@ -215,7 +215,7 @@ qualifier-read (G.signed b k) e = rw (one-read b, identifiers-read k e)
 
 -- ---- partials
 
-dot-digit : {s t : List ℕ} → Literal (bytes ".") s t → Stops isDigit s
+pub dot-digit : {s t : List ℕ} → Literal (bytes ".") s t → Stops isDigit s
 unfolding isDigit
 dot-digit (G.byte k) = refl
 

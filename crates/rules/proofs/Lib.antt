@@ -33,6 +33,11 @@ pub mod ReadingCall
 pub mod WalkWords
 pub mod WalkText
 pub mod Source
+pub mod VersionSound
+pub mod VersionComplete
+pub mod VersionAccepted
+pub mod PrecedenceLaws
+pub mod AdmissionLaws
 pub mod Bound
 pub mod PlainformLaws
 pub mod Theorems

@@ -17,7 +17,7 @@ use Rattle.rules.proofs.Results.{Gives, nothing, gives, given, gives-ma
 
 -- ---- bytes
 
-oneOf-sound : (p : ℕ → Bool) (s : List ℕ) → Gives (OneOf p s) (oneOf p s)
+pub oneOf-sound : (p : ℕ → Bool) (s : List ℕ) → Gives (OneOf p s) (oneOf p s)
 unfolding oneOf
 oneOf-sound p [] = nothing
 oneOf-sound p (c ∷ s) = go (p c) refl
@@ -26,7 +26,7 @@ oneOf-sound p (c ∷ s) = go (p c) refl
     go true e = gives (OneOf.one e)
     go false e = nothing
 
-run-sound : (p : ℕ → Bool) (s : List ℕ) → Run p s (take (count p s) s) (drop (count p s) s)
+pub run-sound : (p : ℕ → Bool) (s : List ℕ) → Run p s (take (count p s) s) (drop (count p s) s)
 unfolding count
 run-sound p [] = Run.stop
 run-sound p (c ∷ s) = go (p c) refl (run-sound p s)
@@ -36,7 +36,7 @@ run-sound p (c ∷ s) = go (p c) refl (run-sound p s)
     go true e h = Run.more e h
     go false e h = Run.stop
 
-literal-sound : (w s : List ℕ) → Gives (λ u. Literal w s) (literal w s)
+pub literal-sound : (w s : List ℕ) → Gives (λ u. Literal w s) (literal w s)
 unfolding literal
 literal-sound [] s = gives G.done
 literal-sound (b ∷ w) [] = nothing
@@ -46,7 +46,7 @@ literal-sound (b ∷ w) (c ∷ s) = go (eqb c b) refl (literal-sound w s)
     go true e h = rw (eqb-true c b e) (gives-map h λ u r k. G.byte k)
     go false e h = nothing
 
-many-sound : {A : Type 0} {P : List ℕ → A → List ℕ → Type 0} (f : List ℕ → Result A) → ((s : List ℕ) → Gives (P s) (f s))
+pub many-sound : {A : Type 0} {P : List ℕ → A → List ℕ → Type 0} (f : List ℕ → Result A) → ((s : List ℕ) → Gives (P s) (f s))
     → (k : ℕ) (s : List ℕ) → Gives (Many P s) (many f k s)
 unfolding many
 many-sound f h zero s = gives Many.stop
@@ -171,7 +171,7 @@ further-sound : (s : List ℕ) → Gives (ReadsFurther s) (readFurther s)
 unfolding readFurther
 further-sound s = gives-then (separator-sound s) λ u t h. gives-map (range-sound t) λ a r k. G.further h k
 
-atEnd-sound : (s : List ℕ) → Gives (λ u r. s ≡ []) (atEnd s)
+pub atEnd-sound : (s : List ℕ) → Gives (λ u r. s ≡ []) (atEnd s)
 unfolding atEnd
 atEnd-sound [] = gives refl
 atEnd-sound (c ∷ s) = nothing

@@ -21,7 +21,7 @@ use Rattle.rules.proofs.Decimal.{value-decimal}
 
 -- ---- what the grammar derives
 
-literal-bytes : {w s r : List ℕ} → Literal w s r → s ≡ w ++ r
+pub literal-bytes : {w s r : List ℕ} → Literal w s r → s ≡ w ++ r
 literal-bytes G.done = refl
 literal-bytes (G.byte {c} k) = ap (_∷_ c) (literal-bytes k)
 

@@ -1,10 +1,10 @@
 -- THE THEOREMS about the definitions of specs/, each in its final form; its proof is cited. A reader who believes the definitions and
 -- reads this file knows what is proved of them.
 -- Assumes nothing.
-use mathlib.Core.Logic.{_↔_}
+use mathlib.Core.Logic.{_↔_, _⊎_}
 use mathlib.Core.Path.{_≡_}
 use Prim.Native.Nat.{ℕ, _≤_, _<_}
-use mathlib.Core.Bool.{true}
+use mathlib.Core.Bool.{true, false}
 use mathlib.Core.List.{List, [], map}
 use lib.ListN.{length}
 use Rattle.rules.specs.Lists.{each, All, Some}
@@ -29,6 +29,15 @@ use Rattle.rules.proofs.Unread as Unread
 use Rattle.rules.proofs.RoundTrip as RoundTrip
 use Rattle.rules.proofs.ReadBackLaws as ReadBackLaws
 use Rattle.rules.proofs.Places as Places
+use Rattle.rules.specs.Version.{Version, placelessVersion, ReadsVersion, readVersion}
+use Rattle.rules.specs.Precedence.{less, equal, greater, precedence}
+use Rattle.rules.specs.Admission.{admits, versionFits, versionOf, admissionCall}
+use Rattle.rules.specs.AdmissionExamples.{chain, comparisons, orderExpected, orderAnswered, admissions, admissionExpected, admissionAnswered}
+use Rattle.rules.proofs.VersionSound as VersionSound
+use Rattle.rules.proofs.VersionComplete as VersionComplete
+use Rattle.rules.proofs.VersionAccepted as VersionAccepted
+use Rattle.rules.proofs.PrecedenceLaws as PrecedenceLaws
+use Rattle.rules.proofs.AdmissionLaws as AdmissionLaws
 
 -- ---- 1. The function that reads is sound and complete for the grammar, and the grammar is unambiguous.
 
@@ -106,3 +115,60 @@ places = Places.places
 
 pub input-sheet : map outputOf inputSheet ≡ map outputGiven inputSheet
 input-sheet = Tables.tables .3
+
+-- ---- 10. Versions. The function that reads a version is sound and complete for the grammar of Semantic Versioning 2.0.0, which is unambiguous.
+
+pub version-sound : (s : List ℕ) (v : Version) (r : List ℕ) → readVersion s ≡ ok v r → ReadsVersion s v
+version-sound = VersionSound.sound
+
+pub version-complete : {s : List ℕ} {v : Version} → ReadsVersion s v → readVersion s ≡ ok v []
+version-complete = VersionComplete.complete
+
+pub version-unambiguous : {s : List ℕ} {v w : Version} → ReadsVersion s v → ReadsVersion s w → v ≡ w
+version-unambiguous = VersionComplete.unambiguous
+
+-- So a version text is refused with 8 exactly when it is longer than 65,535 bytes or no version, and with 9 exactly when it is one whose major,
+-- minor or patch is above the largest number.
+pub refused-8 : (s : List ℕ) → (versionOf s ≡ refused 8) ↔ ((longest < length s) ⊎ ((v : Version) → ReadsVersion s v → ⊥))
+refused-8 = VersionAccepted.refused-8
+
+pub refused-9 : (s : List ℕ) (v : Version) → length s ≤ longest → ReadsVersion s v → (versionOf s ≡ refused 9) ↔ (versionFits v ≡ false)
+refused-9 = VersionAccepted.refused-9
+
+-- ---- 11. Precedence is a total order of versions: one is below the other or they are equal, in their triples and in their identifiers, and
+-- no two of these at once.
+
+pub trichotomy : (v w : Version) → (precedence v w ≡ less) ⊎ ((placelessVersion v ≡ placelessVersion w) ⊎ (precedence w v ≡ less))
+trichotomy = PrecedenceLaws.trichotomy PrecedenceLaws.precedence-ordered
+
+pub precedence-equal : (v w : Version) → (precedence v w ≡ equal) ↔ (placelessVersion v ≡ placelessVersion w)
+precedence-equal = PrecedenceLaws.equal-same PrecedenceLaws.precedence-ordered
+
+pub precedence-turned : (v w : Version) → (precedence v w ≡ less) ↔ (precedence w v ≡ greater)
+precedence-turned = PrecedenceLaws.turned-less PrecedenceLaws.precedence-ordered
+
+pub precedence-transitive : (u v w : Version) → precedence u v ≡ less → precedence v w ≡ less → precedence u w ≡ less
+precedence-transitive = PrecedenceLaws.transitive PrecedenceLaws.precedence-ordered
+
+-- the chain of Semantic Versioning 2.0.0's own example, and further comparisons
+pub precedence-chain : map orderAnswered chain ≡ map orderExpected chain
+precedence-chain = Tables.tables .4
+
+pub worked-comparisons : map orderAnswered comparisons ≡ map orderExpected comparisons
+worked-comparisons = Tables.tables .5
+
+-- ---- 12. The table of admissions: prereleases on both ends of a range, `||`, an empty range, `+` in ranges and in versions, kinds of
+-- identifiers, and the refusals 8 and 9 after 1 to 4.
+
+pub worked-admissions : map admissionAnswered admissions ≡ map admissionExpected admissions
+worked-admissions = Tables.tables .6
+
+-- ---- 13. Equal readings admit the same versions.
+
+pub equal-admits : (rs ss : Reading) → placelessReading rs ≡ placelessReading ss → (v : Version) → admits rs v ≡ admits ss v
+equal-admits = AdmissionLaws.admits-same
+
+-- Hence a normal text of at most 65,535 bytes, under every mode, admits what its text admits.
+pub normal-admits : (m m′ : Compat) (t s : List ℕ) (rs : Reading) → reading m t ≡ accepted rs → length (spell rs) ≤ longest
+    → admissionCall m′ (spell rs) s ≡ admissionCall m t s
+normal-admits = AdmissionLaws.admission-normal

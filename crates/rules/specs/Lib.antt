@@ -12,4 +12,8 @@ pub mod Walk
 pub mod Alike
 pub mod ReadBack
 pub mod Equality
+pub mod Version
+pub mod Precedence
+pub mod Admission
 pub mod Examples
+pub mod AdmissionExamples

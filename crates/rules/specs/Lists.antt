@@ -1,6 +1,6 @@
--- Lists: a whole list of its parts, a test of each element, and what holds of each or of some element.
+-- Lists: a whole list of its parts, a test of each or of some element, and what holds of each or of some element.
 -- Assumes nothing.
-use mathlib.Core.Bool.{Bool, true, _&&_}
+use mathlib.Core.Bool.{Bool, true, false, _&&_, _||_}
 use mathlib.Core.List.{List, [], _∷_, _++_}
 
 -- the lists, one after another
@@ -12,6 +12,11 @@ concat (l ∷ ls) = l ++ concat ls
 abbrev pub each : {A : Type 0} → (A → Bool) → List A → Bool
 each p [] = true
 each p (a ∷ l) = p a && each p l
+
+-- the test passes at some element
+abbrev pub someOf : {A : Type 0} → (A → Bool) → List A → Bool
+someOf p [] = false
+someOf p (a ∷ l) = p a || someOf p l
 
 -- each element has the property
 pub data All {A : Type 0} (P : A → Type 0) : List A → Type 0 where

@@ -4,12 +4,12 @@
 -- Assumes nothing.
 use mathlib.Core.Path.{_≡_}
 use Prim.Native.Nat.{ℕ, suc, _+_}
-use mathlib.Core.Bool.{Bool, true, false, not, _&&_, _||_}
+use mathlib.Core.Bool.{Bool, true, false, not, _&&_}
 use mathlib.Core.Option.{Option, none, some}
 use mathlib.Core.List.{List, [], _∷_, _++_, map}
 use lib.Dec.{eqb, ltb}
 use lib.ListN.{length}
-use Rattle.rules.specs.Lists.{concat}
+use Rattle.rules.specs.Lists.{concat, someOf}
 use Rattle.rules.specs.Bytes.{bytes, pick}
 use Rattle.rules.specs.Syntax as S
 use Rattle.rules.specs.Syntax.{Partial, xRangeOnly, majorOnly, majorMinor, majorMinorPatch, identifiersOf, Prefix, bare, tilde, caret, op, Range}
@@ -160,10 +160,6 @@ walkOf m (ok rs r) = some (map (expandRange m) rs)
 abbrev pub total : {A : Type 0} → (A → ℕ) → List A → ℕ
 total f [] = 0
 total f (a ∷ l) = f a + total f l
-
-abbrev pub someOf : {A : Type 0} → (A → Bool) → List A → Bool
-someOf p [] = false
-someOf p (a ∷ l) = p a || someOf p l
 
 -- how many comparators a piece gives, and how many identifiers
 abbrev pub comparatorCount : Piece → ℕ

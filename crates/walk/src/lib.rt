@@ -53,7 +53,7 @@ fn is_item(stage: Stage) -> bool
 }
 
 // A range begins.
-fn is_range(stage: Stage) -> bool
+pub fn is_range(stage: Stage) -> bool
     ensures { λ r. ⌜ r ≡ isRange (stageOf stage) ⌝ }
 {
     match stage {

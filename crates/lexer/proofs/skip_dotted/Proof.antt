@@ -1,10 +1,12 @@
-use Rattle.lexer.proofs.IdentifierLaws.{Dotted, dotteds}
+use Rattle.lexer.proofs.Counting.{Counted}
+use Rattle.lexer.proofs.IdentifierLaws.{dotteds}
+use Rattle.rules.specs.Parse.{readDotIdentifier}
 use borrow.Author.Needs.{needs}
 use Rattle.lexer.proofs.skip_dotted.Statement.{statement}
 use Rattle.lexer.proofs.skip_dotted.Tie as tie
 
 abbrev Inv-loop : tie.InvT-loop
-Inv-loop s count₀ left₀ count left = Dotted s count left
+Inv-loop s count₀ left₀ count left = Counted readDotIdentifier s count left
 
 abbrev μ-loop : tie.MeasureT-loop
 μ-loop s count₀ left₀ count left = left

@@ -1,0 +1,4 @@
+pub mod Verdicts
+pub mod Holding
+pub mod Meeting
+pub mod Admitting

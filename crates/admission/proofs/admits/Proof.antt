@@ -1,0 +1,31 @@
+use Rattle.admission.proofs.Admitting.{Admitting, admitting}
+use Rattle.range.specs.Views.{compatOf}
+use Rattle.passes.proofs.Turn.{ahead}
+use borrow.Author.Needs.{needs}
+use Rattle.admission.proofs.admits.Statement.{statement}
+use Rattle.admission.proofs.admits.Tie as tie
+
+abbrev Inv-loop : tie.InvT-loop
+Inv-loop s compat t v some₀ all₀ stage₀ left₀ some all stage left = Admitting (compatOf compat) s t some all stage left
+
+abbrev μ-loop : tie.MeasureT-loop
+μ-loop s compat t v some₀ all₀ stage₀ left₀ some all stage left = ahead stage left
+
+pub admits-spec : {M : Type 1} → statement M
+admits-spec =
+    tie.close
+    (tie.spec
+    Inv-loop
+    μ-loop
+    (λ c. search (admitting, needs))
+    (λ c κs. search (admitting, needs))
+    (λ c. search (admitting, needs))
+    (λ c. search (admitting, needs))
+    (λ c. search (admitting, needs))
+    (λ c. search (admitting, needs))
+    (λ c κs. search (admitting, needs))
+    (λ c κs. search (admitting, needs))
+    (λ c κs. search (admitting, needs))
+    (λ c. search (admitting, needs))
+    (λ c. search (admitting, needs))
+    (λ c. search (admitting, needs)))

@@ -1,0 +1,6 @@
+pub mod OrderLaws
+pub mod ByteLaws
+pub mod SeriesLaws
+pub mod VersionIdentifiers
+pub mod FirstLaws
+pub mod Comparing

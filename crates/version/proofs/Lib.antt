@@ -1,0 +1,4 @@
+pub mod IdentifierLaws
+pub mod NumberLaws
+pub mod TailLaws
+pub mod VersionLaws
