@@ -24,12 +24,11 @@ use Rattle.passes.proofs.Passing.{Passing, starting, Passes, passes, passes-few
 use Rattle.passes.proofs.Folds.{todo, nextAt, todo-next, todo-end, todo-push}
 use Rattle.rules.proofs.VersionAccepted.{Decided, long, underivable, large, accepts, decided}
 use Rattle.rangeset.specs.Views.{outcomeOf}
-use Rattle.rangeset.specs.declared.Counts.{Counts}
 use Rattle.rangeset.specs.declared.Refusal.{Refusal}
 use Rattle.rangeset.specs.declared.Refusal.the-variants as Refusals
 use Rattle.rangeset.specs.declared.Reading.{Reading}
 use Rattle.rangeset.specs.declared.Reading.the-variants as Readings
-use Rattle.rangeset.proofs.Outcomes.{counted-reading, refused-reading}
+use Rattle.rangeset.proofs.Outcomes.{counted-accepts, refused-reading}
 use Rattle.version.specs.Views.{versionTextOf}
 use Rattle.version.specs.declared.Version.{Version}
 use Rattle.version.specs.declared.VersionText.{VersionText}
@@ -37,7 +36,7 @@ use Rattle.version.specs.declared.VersionText.the-variants as T
 use Rattle.admission.specs.Views.{versionOr, versionIn, Held, Admits, answerOf}
 use Rattle.admission.specs.declared.Admission.the-variants as Admission
 use Rattle.admission.proofs.Holding.{holding}
-use Rattle.admission.proofs.Verdicts.{Verdict, between, within, meetsPiece, verdict, after, ended, verdict-push, verdict-open, verdict-text}
+use Rattle.admission.proofs.Verdicts.{or-none, Verdict, between, within, meetsPiece, verdict, after, ended, verdict-push, verdict-open, verdict-text}
 
 -- ---- the loop
 
@@ -69,19 +68,15 @@ after-piece v W.only s a b x h e = ap (λ d. within s (a && d)) (sym e)
 after-piece v W.end s a b x h e = ap (λ d. within s (a && d)) (sym e)
 after-piece v W.bad s a b x h e = ap (λ d. within s (a && d)) (sym e)
 
-or-none : (a : Bool) → a ≡ a || false
-or-none true = refl
-or-none false = refl
-
 -- where a range has ended, and where it has not
 next-verdict : (v : R.Version) (st : W.Stage) (s m e : Bool) → e ≡ isRange st
     → nextAt (verdict v) (ended v) st (within s m) ≡ verdictAt st (s || (e && m)) (e || m)
 next-verdict v W.range s m e i = ap (λ c. between (s || (c && m))) (sym i)
-next-verdict v W.item s m e i = ap₂ within (or-none s ∙ ap (λ c. s || (c && m)) (sym i)) (ap (λ c. c || m) (sym i))
-next-verdict v W.right s m e i = ap₂ within (or-none s ∙ ap (λ c. s || (c && m)) (sym i)) (ap (λ c. c || m) (sym i))
-next-verdict v W.only s m e i = ap₂ within (or-none s ∙ ap (λ c. s || (c && m)) (sym i)) (ap (λ c. c || m) (sym i))
-next-verdict v W.end s m e i = ap₂ within (or-none s ∙ ap (λ c. s || (c && m)) (sym i)) (ap (λ c. c || m) (sym i))
-next-verdict v W.bad s m e i = ap₂ within (or-none s ∙ ap (λ c. s || (c && m)) (sym i)) (ap (λ c. c || m) (sym i))
+next-verdict v W.item s m e i = ap₂ within (sym (or-none s) ∙ ap (λ c. s || (c && m)) (sym i)) (ap (λ c. c || m) (sym i))
+next-verdict v W.right s m e i = ap₂ within (sym (or-none s) ∙ ap (λ c. s || (c && m)) (sym i)) (ap (λ c. c || m) (sym i))
+next-verdict v W.only s m e i = ap₂ within (sym (or-none s) ∙ ap (λ c. s || (c && m)) (sym i)) (ap (λ c. c || m) (sym i))
+next-verdict v W.end s m e i = ap₂ within (sym (or-none s) ∙ ap (λ c. s || (c && m)) (sym i)) (ap (λ c. c || m) (sym i))
+next-verdict v W.bad s m e i = ap₂ within (sym (or-none s) ∙ ap (λ c. s || (c && m)) (sym i)) (ap (λ c. c || m) (sym i))
 
 -- at the end
 last-verdict : (v : R.Version) (st : W.Stage) (s a : Bool) → goesOn st ≡ false → verdict v (ended v (verdictAt st s a)) [] ≡ s || a
@@ -201,11 +196,8 @@ module _ (m : E.Compat) (s t : List ℕ) (a : Accepts m s) (w : VersionText) (e 
 pub ruleset versions = (version-held, version-none, version-large, admit-yes, admit-no)
 
 module _ (m : E.Compat) (s t : List ℕ) (r : Reading) (e : outcomeOf r ≡ readingOutcome (reading m s)) where
-  pub call-accepts : (c : Counts) → r ≡ Readings.Accepted c → Accepts m s
-  call-accepts c q = let h = counted-reading m s c (ap outcomeOf (sym q) ∙ e) in record { reads = h .reads; is = h .is }
-
   pub call-refused : (y : Refusal) → r ≡ Readings.Refused y → answerOf (Admission.Refused y) ≡ admissionCall m s t
   unfolding admissionCall
   call-refused y q = sym (rw (admissionCall, refused-reading m s y (ap outcomeOf (sym q) ∙ e)))
 
-pub ruleset calls = (call-accepts, call-refused)
+pub ruleset calls = (counted-accepts, call-refused)

@@ -29,11 +29,13 @@ use Rattle.range.specs.declared.Raised.{Raised}
 use Rattle.range.specs.declared.Raised.the-variants as Raised
 use Rattle.walk.specs.declared.Step.{Step}
 use Rattle.passes.specs.Views.{raisedCount, keptWith, raisedTo, comparatorOf, keptGives, raisedGives, stepGives, stepIdentifiers, Raisable, Known}
+use Rattle.passes.proofs.Raising.{gives-none, gives-one}
 use Rattle.precedence.specs.Views.{orderOf}
 use Rattle.precedence.specs.declared.Order.{Order}
 use Rattle.precedence.specs.declared.Order.the-variants as O
 use Rattle.version.specs.declared.Version.{Version}
 use Rattle.admission.specs.Views.{versionIn, prereleaseIn, Held}
+use Rattle.admission.proofs.Verdicts.{and-all}
 use Rattle.admission.proofs.Holding.{Holding, holding}
 
 -- ---- compare_prereleases
@@ -178,30 +180,14 @@ module _ (t : List ℕ) (v : Version) (h : Held t v) where
 
   -- a comparator without identifiers that is above the version
   module _ (x : Step) (n : ℕ) (i : n ≡ raisedCount (x .raised)) where
-    gives-none : (r : Raised) → raisedCount r ≡ 0 → raisedGives r x ≡ []
-    gives-none Raised.Major e = cc
-    gives-none Raised.Minor e = cc
-    gives-none Raised.Patch e = cc
-    gives-none Raised.Nothing e = refl
-
-    gives-one : (r : Raised) → (raisedCount r ≡ 0 → ⊥) → raisedGives r x ≡ comparatorOf (raisedTo r x) [] ∷ []
-    gives-one Raised.Major z = refl
-    gives-one Raised.Minor z = refl
-    gives-one Raised.Patch z = refl
-    gives-one Raised.Nothing z = absurd (z refl)
-
     pub raised-none : n ≡ 0 → true ≡ each (meets (versionIn t)) (raisedGives (x .raised) x)
-    raised-none e = sym (ap (each (meets (versionIn t))) (gives-none (x .raised) (sym i ∙ e)))
+    raised-none e = sym (ap (each (meets (versionIn t))) (gives-none x (x .raised) (sym i ∙ e)))
 
     module _ (z : n ≡ 0 → ⊥) (c : Comparator) (j : c ≡ raisedTo (x .raised) x) (r : Order) (e : orderOf r ≡ triple v (c .major) (c .minor) (c .patch)) where
-      and-all : (b : Bool) → b && true ≡ b
-      and-all true = refl
-      and-all false = refl
-
       below : each (meets (versionIn t)) (raisedGives (x .raised) x) ≡ holds S.lt (precedence (versionIn t) (version (c .major) (c .minor) (c .patch) []))
       unfolding meets
       below =
-          ap (each (meets (versionIn t))) (gives-one (x .raised) (λ k. z (i ∙ k)) ∙ ap (λ d. comparatorOf d [] ∷ []) (sym j))
+          ap (each (meets (versionIn t))) (gives-one x (x .raised) (λ k. z (i ∙ k)) ∙ ap (λ d. comparatorOf d [] ∷ []) (sym j))
           ∙ and-all (meets (versionIn t) (comparatorOf c []))
           ∙ ap (λ o. holds o (precedence (versionIn t) (version (c .major) (c .minor) (c .patch) []))) (ap (λ d. opOf (d .op)) j ∙ is-lt (x .raised))
         where
@@ -246,12 +232,8 @@ module _ (s : List ℕ) (x : Step) (w : R.Version) (b : Bool) (e : b ≡ each (m
 
   pub step-both : (op : Op) → x .kept ≡ Kept.Op op → (a : Bool) → a ≡ meets w (comparatorOf (keptWith op x) (stepIdentifiers s x)) → a && b ≡ each (meets w) (stepGives s x)
   step-both op q a i =
-      ap₂ _&&_ (i ∙ sym (and-all′ (meets w (comparatorOf (keptWith op x) (stepIdentifiers s x))))) e
+      ap₂ _&&_ (i ∙ sym (and-all (meets w (comparatorOf (keptWith op x) (stepIdentifiers s x))))) e
       ∙ sym (parts ∙ ap (λ k. each (meets w) (keptGives k x (stepIdentifiers s x)) && each (meets w) (raisedGives (x .raised) x)) q)
-    where
-      and-all′ : (b : Bool) → b && true ≡ b
-      and-all′ true = refl
-      and-all′ false = refl
 
 pub known-raisable : (s : List ℕ) (x : Step) → Known s x → Raisable (x .raised) x
 known-raisable s x k = k .raisable

@@ -15,12 +15,11 @@ use Rattle.rules.specs.Answers.{Answer, accepted, refused, reading, readingOutc
 use Rattle.rules.proofs.NormalTextCall.{normalText-accepted, normal-refused, normal-7, normal-accepts}
 use Rattle.passes.specs.Views.{Accepts}
 use Rattle.rangeset.specs.Views.{numberOf, outcomeOf}
-use Rattle.rangeset.specs.declared.Counts.{Counts}
 use Rattle.rangeset.specs.declared.Refusal.{Refusal}
 use Rattle.rangeset.specs.declared.Refusal.the-variants as Refusals
 use Rattle.rangeset.specs.declared.Reading.{Reading}
 use Rattle.rangeset.specs.declared.Reading.the-variants as R
-use Rattle.rangeset.proofs.Outcomes.{refusal-number, reading-number, counted-reading, refused-reading}
+use Rattle.rangeset.proofs.Outcomes.{refusal-number, reading-number, counted-accepts, refused-reading}
 use Rattle.normal_text.specs.Views.{lengthOf}
 use Rattle.normal_text.specs.declared.NormalText.{NormalText}
 use Rattle.normal_text.specs.declared.NormalText.the-variants as T
@@ -56,14 +55,11 @@ pub ruleset fits = (fit-short, fit-whole)
 -- ---- normal_text_len
 
 module _ (m : Compat) (s : List ℕ) (r : Reading) (e : outcomeOf r ≡ readingOutcome (reading m s)) where
-  pub len-accepts : (c : Counts) → r ≡ R.Accepted c → Accepts m s
-  len-accepts c q = let h = counted-reading m s c (ap outcomeOf (sym q) ∙ e) in record { reads = h .reads; is = h .is }
-
   pub len-refused : (y : Refusal) → r ≡ R.Refused y → (lent : ℕ) → lengthOf (T.Refused y) ≡ normalTextOutcome (normalTextCall m s lent)
   len-refused y q lent =
       refused-result (normalTextCall m s lent) y (normal-refused m s lent (numberOf y) (refused-reading m s y (ap outcomeOf (sym q) ∙ e)))
 
-pub ruleset lens = (len-accepts, len-refused)
+pub ruleset lens = (counted-accepts, len-refused)
 
 -- ---- normal_text
 

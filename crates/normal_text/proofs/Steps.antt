@@ -14,14 +14,13 @@ use Rattle.partial.specs.declared.Op.{Op}
 use Rattle.partial.specs.declared.Comparator.{Comparator}
 use Rattle.range.specs.declared.Kept.{Kept}
 use Rattle.range.specs.declared.Kept.the-variants as Kept
-use Rattle.range.specs.declared.Raised.{Raised}
-use Rattle.range.specs.declared.Raised.the-variants as Raised
 use Rattle.walk.specs.declared.Step.{Step}
 use Rattle.rows.specs.Put.{Put}
 use Rattle.rows.proofs.Puts.{put-then, put-same}
 use Rattle.spelling.specs.Views.{spelledTriple}
 use Rattle.spelling.proofs.Triples.{comparator-spelled}
 use Rattle.passes.specs.Views.{raisedCount, keptWith, raisedTo, comparatorOf, keptGives, raisedGives, stepGives, stepIdentifiers, Raisable, Known}
+use Rattle.passes.proofs.Raising.{gives-none, gives-one}
 use Rattle.normal_text.specs.Views.{gapOf, gapKept, behindGap}
 use Rattle.normal_text.specs.declared.Gap.{Gap}
 
@@ -102,22 +101,10 @@ module _ (g : Gap) (x : Step) where
   abbrev raised : List ℕ
   raised = spellAfter (gapOf g) (raisedGives (x .raised) x)
 
-  gives-none : (r : Raised) → raisedCount r ≡ 0 → raisedGives r x ≡ []
-  gives-none Raised.Major e = cc
-  gives-none Raised.Minor e = cc
-  gives-none Raised.Patch e = cc
-  gives-none Raised.Nothing e = refl
-
-  gives-one : (r : Raised) → (raisedCount r ≡ 0 → ⊥) → raisedGives r x ≡ comparatorOf (raisedTo r x) [] ∷ []
-  gives-one Raised.Major z = refl
-  gives-one Raised.Minor z = refl
-  gives-one Raised.Patch z = refl
-  gives-one Raised.Nothing z = absurd (z refl)
-
   module _ (n : ℕ) (i : n ≡ raisedCount (x .raised)) where
     module _ (e : n ≡ 0) where
       raised-none : raised ≡ []
-      raised-none = ap (spellAfter (gapOf g)) (gives-none (x .raised) (sym i ∙ e)) ∙ spell-none (gapOf g)
+      raised-none = ap (spellAfter (gapOf g)) (gives-none x (x .raised) (sym i ∙ e)) ∙ spell-none (gapOf g)
 
       pub raised-zero : 0 ≡ length raised
       raised-zero = rw raised-none
@@ -129,7 +116,7 @@ module _ (g : Gap) (x : Step) where
       raised-is : raised ≡ behindGap (gapOf g) c
       unfolding spellIdentifiers
       raised-is =
-          ap (spellAfter (gapOf g)) (gives-one (x .raised) (λ j. z (i ∙ j))) ∙ one-spelled (gapOf g) (raisedTo (x .raised) x) []
+          ap (spellAfter (gapOf g)) (gives-one x (x .raised) (λ j. z (i ∙ j))) ∙ one-spelled (gapOf g) (raisedTo (x .raised) x) []
           ∙ append-nil (behindGap (gapOf g) (raisedTo (x .raised) x)) ∙ ap (behindGap (gapOf g)) (sym e)
 
       pub raised-length : (a : ℕ) → a ≡ length (behindGap (gapOf g) c) → a ≡ length raised

@@ -27,7 +27,7 @@ use Rattle.walk.specs.declared.Stage.{Stage}
 use Rattle.walk.specs.declared.Stage.the-variants as Stages
 use Rattle.walk.specs.declared.Step.{Step}
 use Rattle.rows.specs.Put.{Put}
-use Rattle.rows.proofs.Puts.{put-onto, Begins, begins-length, Writing, writing-start, writing-put, writing-next, writing-end}
+use Rattle.rows.proofs.Puts.{put-onto, Begins, begins-length, Writing, writing-start, writing-todo, writing-put, writing-next, writing-end}
 use Rattle.passes.specs.Views.{Accepts, keptCount, raisedCount, keptGives, raisedGives, stepGives, stepIdentifiers, Known}
 use Rattle.passes.proofs.Turn.{ahead}
 use Rattle.passes.proofs.Passing.{Passing, starting, Passes, passes, passes-fewer, passing-end, known}
@@ -183,9 +183,6 @@ pub record Putting (m : E.Compat) (s start out : List ℕ) (at : ℕ) (gap : Gap
   pub short : length s ≤ longest
   pub writing : Writing start 0 (spell reads) out at (coming pass gap)
   pub room : length (spell reads) ≤ length start
-
-writing-todo : {start all now v w : List ℕ} {from at : ℕ} → v ≡ w → Writing start from all now at v → Writing start from all now at w
-writing-todo e h = rw e at h
 
 module _ (m : E.Compat) (s start : List ℕ) where
   pub putting-start : Accepts m s → normalTextOutcome (normalText m s) .length ≤ length start → Putting m s start start 0 Gap.Start Stages.Range (length s)

@@ -1,14 +1,16 @@
--- The comparator with a component raised: a law for each of its ways.
+-- The comparator with a component raised: a law for each of its ways, and whether there is one.
 -- Assumes nothing.
 use Prim.Native.Nat.{_+_, _<_}
 use mathlib.Core.Path.{_≡_, refl}
+use mathlib.Core.List.{[], _∷_}
 use native.Mathlib.Omega.{arith}
 use mir.Val.{Fits}
 use mir.Syntax.{w64}
 use Rattle.rules.specs.Bytes.{largest}
+use Rattle.range.specs.declared.Raised.{Raised}
 use Rattle.range.specs.declared.Raised.the-variants as Raised
 use Rattle.walk.specs.declared.Step.{Step}
-use Rattle.passes.specs.Views.{below, raisedTo, Raisable}
+use Rattle.passes.specs.Views.{raisedCount, below, raisedTo, Raisable, comparatorOf, raisedGives}
 
 module _ (x : Step) where
   module _ (e : x .raised ≡ Raised.Major) where
@@ -36,3 +38,18 @@ module _ (x : Step) where
   none-raised e = rw e refl
 
 pub ruleset raising = (major-fits, major-raised, minor-fits, minor-raised, patch-fits, patch-raised, none-raised)
+
+-- ---- whether there is one
+
+module _ (x : Step) where
+  pub gives-none : (r : Raised) → raisedCount r ≡ 0 → raisedGives r x ≡ []
+  gives-none Raised.Major e = cc
+  gives-none Raised.Minor e = cc
+  gives-none Raised.Patch e = cc
+  gives-none Raised.Nothing e = refl
+
+  pub gives-one : (r : Raised) → (raisedCount r ≡ 0 → ⊥) → raisedGives r x ≡ comparatorOf (raisedTo r x) [] ∷ []
+  gives-one Raised.Major z = refl
+  gives-one Raised.Minor z = refl
+  gives-one Raised.Patch z = refl
+  gives-one Raised.Nothing z = absurd (z refl)

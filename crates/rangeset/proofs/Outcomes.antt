@@ -16,6 +16,7 @@ use Rattle.rules.specs.Walk.{walkOf}
 use Rattle.rules.proofs.Accepted as A
 use Rattle.rules.proofs.Accepted.{Decided, decided}
 use Rattle.rules.proofs.ReadingCall.{tallied, reading-1, reading-2, reading-3, reading-4, reading-accepts, call-refused, call-5, call-6, call-accepts, call-counts}
+use Rattle.passes.specs.Views.{Accepts}
 use Rattle.rangeset.specs.Views.{counted, tallyOf, Writable, numberOf, outcomeOf}
 use Rattle.rangeset.specs.declared.Tally.{Tally}
 use Rattle.rangeset.specs.declared.Counts.{Counts}
@@ -130,6 +131,9 @@ counted-reading m s c e = go (reading m s) refl
           identifiers = ap (λ x. x .identifiers) (e ∙ ap readingOutcome q);
         }
     go (refused n) q = absurd (reading-number m s n q (sym (ap (λ x. x .refusal) (e ∙ ap readingOutcome q))))
+
+pub counted-accepts : (m : Compat) (s : List ℕ) (r : Reading) → outcomeOf r ≡ readingOutcome (reading m s) → (c : Counts) → r ≡ R.Accepted c → Accepts m s
+counted-accepts m s r e c q = let h = counted-reading m s c (ap outcomeOf (sym q) ∙ e) in record { reads = h .reads; is = h .is }
 
 pub refused-reading : (m : Compat) (s : List ℕ) (w : Refusal) → outcomeOf (R.Refused w) ≡ readingOutcome (reading m s) → reading m s ≡ refused (numberOf w)
 unfolding readingOutcome

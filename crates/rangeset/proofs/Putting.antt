@@ -21,7 +21,7 @@ use Rattle.walk.specs.declared.Stage.{Stage}
 use Rattle.walk.specs.declared.Stage.the-variants as Stages
 use Rattle.walk.specs.declared.Step.{Step}
 use Rattle.rows.specs.Put.{Put}
-use Rattle.rows.proofs.Puts.{put-onto, Begins, Writing, writing-start, writing-put, writing-next, writing-end}
+use Rattle.rows.proofs.Puts.{put-onto, Begins, Writing, writing-start, writing-todo, writing-put, writing-next, writing-end}
 use Rattle.passes.specs.Views.{opened, Raisable, Signed}
 use Rattle.passes.proofs.Turn.{concat-push, concat-opening, ahead}
 use Rattle.passes.proofs.Passing.{Passing, starting, Passes, passes, passes-fewer, passing-end}
@@ -57,9 +57,6 @@ next-range W.bad k = omega arith
 names-push : (n : ℕ) (st : W.Stage) (x : Piece) (rs : List (List Piece)) → walkIdentifierWords n (opening st (push x rs)) ≡ pieceIdentifierWords n x ++ walkIdentifierWords n rs
 unfolding walkIdentifierWords
 names-push n st x rs = ap (λ l. concat (map (pieceIdentifierWords n) l)) (concat-opening st (push x rs) ∙ concat-push x rs)
-
-writing-todo : {start all now v w : List ℕ} {from at : ℕ} → v ≡ w → Writing start from all now at v → Writing start from all now at w
-writing-todo e h = rw e at h
 
 -- ---- the loop
 

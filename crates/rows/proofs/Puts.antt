@@ -55,6 +55,10 @@ pub record Writing (start : List ℕ) (from : ℕ) (all now : List ℕ) (at : �
 pub writing-start : (start : List ℕ) (from : ℕ) (all : List ℕ) → Writing start from all start from all
 writing-start start from all = record { stores = refl; place = refl; same = refl }
 
+-- what is still to be stored, said otherwise
+pub writing-todo : {start all now v w : List ℕ} {from at : ℕ} → v ≡ w → Writing start from all now at v → Writing start from all now at w
+writing-todo e h = rw e at h
+
 -- a turn stored what comes next
 pub writing-put : {start all now todo w rest y : List ℕ} {from at n : ℕ} → Writing start from all now at todo → Begins todo w rest
     → Put now at w y n → Writing start from all y n rest
