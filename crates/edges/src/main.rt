@@ -1,5 +1,7 @@
 // 01's "other edges", read and printed. A line for each reading: the text, the mode, 01's number, and the counts of ranges, comparator rows and
 // identifier rows; under it all lent words, whether the text is accepted or refused. A long text stands by its name, without the words.
+use admission::Admission;
+use admission::admit;
 use range::Compat;
 use rangeset::Reading;
 use rangeset::read;
@@ -102,6 +104,20 @@ fn digits() {
     count(b"60000 digits", &[b'1'; 60000]);
 }
 
+// Whether the text admits the version.
+fn ask(text: &[u8], version: &[u8]) {
+    put(b"  admits");
+    let r = admit(text, Compat::Npm, version);
+    match r {
+        Admission::Yes => put(b" yes\n"),
+        Admission::No => put(b" no\n"),
+        Admission::Refused(refusal) => {
+            put_number(refusal.number());
+            put(b"\n");
+        }
+    }
+}
+
 // Every second byte from the first on.
 fn every_second(text: &mut [u8], b: u8) {
     let mut i = 0;
@@ -115,6 +131,8 @@ fn items() {
     let mut text = [b' '; 65535];
     every_second(&mut text, b'1');
     count(b"32768 items", &text);
+    ask(&text, b"1.5.0");
+    ask(&text, b"2.0.0");
 }
 
 // The text begins with a version and the sign of a qualifier.
@@ -141,6 +159,8 @@ fn identifiers() {
     every_second(&mut text, b'a');
     qualified(&mut text);
     count(b"32765 identifiers", &text);
+    ask(&text, &text);
+    ask(&text, b"1.2.3-a");
 }
 
 fn main() {

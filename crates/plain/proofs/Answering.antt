@@ -1,19 +1,18 @@
 -- The writers of a refusal and of an answer: a law for each of their ways.
 -- Assumes nothing.
 use Prim.Native.Nat.{ℕ, _+_, _-_, _<_, _≤_}
-use mathlib.Core.Path.{_≡_, refl, sym, ap, _∙_}
+use mathlib.Core.Path.{_≡_, refl, sym, subst, ap, _∙_}
 use mathlib.Core.List.{List, []}
 use native.Mathlib.Omega.{arith}
 use borrow.Rule.Slice.PartMut.{putMid}
-use lib.ListN.{length, take, drop, length-append, length-take, length-drop}
-use Rattle.rules.specs.Bytes.{bytes}
+use lib.ListN.{length, take, drop, length-take, length-drop}
 use Rattle.rules.specs.Expansion.{Compat, Reading}
-use Rattle.rules.specs.NormalText.{decimal, spell}
+use Rattle.rules.specs.NormalText.{spell}
 use Rattle.rules.specs.Answers.{Answer, accepted, refused, mapAnswer, reading, normalText, normalTextCall, normalTextOutcome, written, bytesAfter}
-use Rattle.rules.specs.Plainform.{spellAnswer}
+use Rattle.rules.specs.Plainform.{spellRefusal, spellAnswer}
 use Rattle.rules.proofs.PlainformLaws.{never-7}
 use Rattle.rows.specs.Put.{Put}
-use Rattle.rows.proofs.Puts.{put-then, put-part, put-same}
+use Rattle.rows.proofs.Puts.{put-part}
 use Rattle.rows.proofs.Stores.{part-back, sets-onto}
 use Rattle.rangeset.specs.Views.{numberOf}
 use Rattle.rangeset.specs.declared.Refusal.{Refusal}
@@ -24,23 +23,16 @@ use Rattle.normal_text.specs.declared.NormalText.the-variants as T
 
 -- ---- put_refusal
 
-module _ (l : List ℕ) (at : ℕ) (r : Refusal) where
-  refusal-length : length (spellAnswer (refused (numberOf r))) ≡ 8 + length (decimal (numberOf r))
+module _ (l : List ℕ) (at : ℕ) (r : Refusal) (n : ℕ) (e : n ≡ numberOf r) where
+  pub refused-room : at + length (spellAnswer (refused (numberOf r))) ≤ length l → at + length (spellRefusal n) ≤ length l
   unfolding spellAnswer
-  refusal-length = length-append (bytes "refused ") (decimal (numberOf r))
+  refused-room h = subst (λ j. at + length (spellRefusal j) ≤ length l) (sym e) h
 
-  pub refused-room : at + length (spellAnswer (refused (numberOf r))) ≤ length l → at + 8 ≤ length l
-  refused-room h = omega (arith, refusal-length)
+  pub refused-put : (y : List ℕ) (k : ℕ) → Put l at (spellRefusal n) y k → Put l at (spellAnswer (refused (numberOf r))) y k
+  unfolding spellAnswer
+  refused-put y k p = subst (λ j. Put l at (spellRefusal j) y k) e p
 
-  module _ (m : List ℕ) (i : ℕ) (p : Put l at (bytes "refused ") m i) where
-    pub number-room : (n : ℕ) → n ≡ numberOf r → at + length (spellAnswer (refused (numberOf r))) ≤ length l → i + length (decimal n) ≤ length m
-    number-room n e h = rw e (omega (arith, refusal-length, put-same p, p .place))
-
-    pub number-put : (n : ℕ) → n ≡ numberOf r → (y : List ℕ) (k : ℕ) → Put m i (decimal n) y k → Put l at (spellAnswer (refused (numberOf r))) y k
-    unfolding spellAnswer
-    number-put n e y k q = rw (sym e) (put-then p q)
-
-pub ruleset refusals = (refused-room, number-room, number-put)
+pub ruleset refusals = (refused-room, refused-put)
 
 -- ---- put_answer
 

@@ -13,7 +13,7 @@ use normal_text::normal_text;
 use range::Compat;
 use rangeset::Refusal;
 use spelling::put_bytes;
-use spelling::put_decimal;
+use spelling::put_refused;
 
 // How many bytes are enough for the lines of every input: `room` of the rules.
 pub const ROOM: usize = 65562;
@@ -50,8 +50,7 @@ fn put_refusal(out: &mut [u8], at: usize, refusal: Refusal) -> usize
     requires { ⌜ at + length (spellAnswer (refused (numberOf refusal))) ≤ length (now out) ⌝ }
     ensures { λ r. ⌜ Put (now (out .entry)) at (spellAnswer (refused (numberOf refusal))) (now (out .exit)) r ⌝ }
 {
-    let i = put_bytes(out, at, b"refused ");
-    put_decimal(out, i, refusal.number())
+    put_refused(out, at, refusal.number())
 }
 
 // The normal text, or the refusal, which is never 7: the bytes that are lent are enough.

@@ -15,5 +15,6 @@ pub mod Equality
 pub mod Version
 pub mod Precedence
 pub mod Admission
+pub mod Admits
 pub mod Examples
 pub mod AdmissionExamples

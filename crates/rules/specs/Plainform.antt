@@ -27,11 +27,15 @@ abbrev pub modeLetters : Compat → List ℕ
 modeLetters cargo = bytes "cargo "
 modeLetters npm = bytes "npm "
 
--- "then the normal text, or `refused`, a blank and the number"
+-- "`refused`, a blank and the number"
+abbrev pub spellRefusal : ℕ → List ℕ
+spellRefusal n = bytes "refused " ++ decimal n
+
+-- "then the normal text, or" the refusal
 unfoldable pub spellAnswer : Answer (List ℕ) → List ℕ
 unfolding decimal
 spellAnswer (accepted w) = w
-spellAnswer (refused n) = bytes "refused " ++ decimal n
+spellAnswer (refused n) = spellRefusal n
 
 unfoldable pub modeLine : Compat → List ℕ → List ℕ
 unfolding spellAnswer normalText

@@ -1,4 +1,4 @@
-// Writers of numbers and comparators into lent bytes, for the normal text, and how many bytes each writes. Each writer writes from the byte
+// Writers of numbers, comparators and refusals into lent bytes, for the normal text and the programs, and how many bytes each writes. Each writer writes from the byte
 // `at` on, and answers the place behind what it wrote.
 ghost use mathlib.Core.Path.{_≡_};
 ghost use mathlib.Core.List.{_++_};
@@ -6,6 +6,7 @@ ghost use Prim.Native.Nat.{_+_, _≤_};
 ghost use lib.ListN.{length};
 ghost use Rattle.rules.specs.Bytes.{bytes};
 ghost use Rattle.rules.specs.NormalText.{decimal, spellOp};
+ghost use Rattle.rules.specs.Plainform.{spellRefusal};
 ghost use Rattle.partial.specs.Views.{opOf};
 ghost use Rattle.rows.specs.Put.{Put};
 ghost use Rattle.spelling.specs.Views.{dotted, spelledTriple};
@@ -76,6 +77,15 @@ pub fn put_bytes(out: &mut [u8], at: usize, w: &[u8]) -> usize
         i += 1;
     }
     at + i
+}
+
+// `refused`, a blank and the number.
+pub fn put_refused(out: &mut [u8], at: usize, n: u64) -> usize
+    requires { ⌜ at + length (spellRefusal n) ≤ length (now out) ⌝ }
+    ensures { λ r. ⌜ Put (now (out .entry)) at (spellRefusal n) (now (out .exit)) r ⌝ }
+{
+    let i = put_bytes(out, at, b"refused ");
+    put_decimal(out, i, n)
 }
 
 // ---- comparators

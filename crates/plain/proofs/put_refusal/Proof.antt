@@ -7,8 +7,6 @@ pub put-refusal-spec : {M : Type 1} → statement M
 put-refusal-spec =
     tie.close
     (tie.spec
-    (λ c. search (refusals, needs))
-    (λ c κs. search (refusals, needs))
     (λ c κs. search (refusals, needs))
     (λ c κs. search (refusals, needs))
     (λ c. search (refusals, needs))

@@ -1,0 +1,19 @@
+use Rattle.rangeset.proofs.Bytes.{bytes-count}
+use borrow.Author.Needs.{needs}
+use Rattle.admits.proofs.run.Statement.{statement}
+use Rattle.admits.proofs.run.Tie as tie
+
+pub run-spec : {M : Type 1} → statement M
+run-spec =
+    tie.close
+    (tie.spec
+    (λ c. search (bytes-count, needs))
+    (λ c κs. search (bytes-count, needs))
+    (λ c. search (bytes-count, needs))
+    (λ c. search (bytes-count, needs))
+    (λ c κs. search (bytes-count, needs))
+    (λ c. search (bytes-count, needs))
+    (λ c κs. search (bytes-count, needs))
+    (λ c. search (bytes-count, needs))
+    (λ c κs. search (bytes-count, needs))
+    (λ c. search (bytes-count, needs)))
