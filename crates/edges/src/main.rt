@@ -1,5 +1,6 @@
 // 01's "other edges", read and printed. A line for each reading: the text, the mode, 01's number, and the counts of ranges, comparator rows and
-// identifier rows; under it all lent words, whether the text is accepted or refused. A long text stands by its name, without the words.
+// identifier rows; under it all lent words, whether the text is accepted or refused. A long text stands by its name, without the words;
+// under the two that have most comparators and most identifiers, whether they admit a version.
 use admission::Admission;
 use admission::admit;
 use range::Compat;
