@@ -2,10 +2,11 @@
 -- Assumes nothing.
 use Prim.Native.Nat.{ℕ, _<_, _≤_}
 use mathlib.Core.Path.{_≡_, refl, sym, ap, ap₂, _∙_}
-use mathlib.Core.Bool.{Bool, true, false, _&&_, _||_}
+use mathlib.Core.Bool.{Bool, true, false, not, _&&_, _||_}
 use mathlib.Core.List.{List, []}
 use native.Mathlib.Omega.{arith}
 use lib.ListN.{length}
+use borrow.Author.Tests.{not-true, not-false}
 use Rattle.rules.specs.Lists.{each}
 use Rattle.rules.specs.Expansion as E
 use Rattle.rules.specs.Answers.{Answer, accepted, refused, longest, reading, readingOutcome}
@@ -18,9 +19,10 @@ use Rattle.walk.specs.Views.{stageOf, stepAt, isRange}
 use Rattle.walk.specs.declared.Stage.{Stage}
 use Rattle.walk.specs.declared.Stage.the-variants as Stages
 use Rattle.walk.specs.declared.Step.{Step}
-use Rattle.passes.specs.Views.{Accepts, Known, stepGives}
+use Rattle.passes.specs.Views.{firstStep, Accepts, Known, stepGives}
 use Rattle.passes.proofs.Turn.{ahead}
 use Rattle.passes.proofs.Passing.{Passing, starting, Passes, passes, passes-fewer, passing-end, known}
+use Rattle.passes.proofs.Due.{Due, due-first}
 use Rattle.passes.proofs.Folds.{todo, nextAt, todo-next, todo-end, todo-push}
 use Rattle.rules.proofs.VersionAccepted.{Decided, long, underivable, large, accepts, decided}
 use Rattle.rangeset.specs.Views.{outcomeOf}
@@ -88,7 +90,7 @@ last-verdict v W.end s a e = refl
 last-verdict v W.bad s a e = refl
 
 module _ (m : E.Compat) (s t : List ℕ) where
-  pub admitting-start : Accepts m s → Admitting m s t false true Stages.Range (length s)
+  admitting-start : Accepts m s → Admitting m s t false true Stages.Range (length s)
   admitting-start a =
       let b = starting m s (a .reads) (a .is) in
       record {
@@ -102,53 +104,74 @@ module _ (m : E.Compat) (s t : List ℕ) where
         fresh = λ e. refl;
       }
 
-  module _ (some all : Bool) (stage : Stage) (left : ℕ) (g : Admitting m s t some all stage left) (y : Bool) (q : y ≡ goesOn (stageOf stage)) where
-    module _ (u : y ≡ true) (x : Step) (e : x ≡ stepAt m (stageOf stage) (Rest s left)) where
-      here : Passes (g .pass) x
-      here = passes (g .pass) (sym q ∙ u) x e
+  -- nothing is to come
+  admitting-end : (some all : Bool) (stage : Stage) (left : ℕ) → Admitting m s t some all stage left → goesOn (stageOf stage) ≡ false → Admits m s t (some || all)
+  admitting-end some all stage left g u =
+      record {
+        is =
+            λ rs k.
+            let w : g .reads ≡ rs = same (sym (g .is) ∙ k) in
+            sym (last-verdict (versionIn t) (stageOf stage) some all u)
+            ∙ sym (todo-end (verdict (versionIn t)) (ended (versionIn t)) (verdict-open (versionIn t)) (stageOf stage) (verdictAt (stageOf stage) some all) u)
+            ∙ ap (todo (verdict (versionIn t)) (stageOf stage) (verdictAt (stageOf stage) some all)) (sym (passing-end (g .pass) u))
+            ∙ g .rest ∙ ap (λ r. admits r (versionIn t)) w;
+      }
+    where
+      same : {a b : E.Reading} → accepted a ≡ accepted b → a ≡ b
+      same e = cc
 
-      pub admitting-known : Known s x
-      admitting-known = known (g .pass) (sym q ∙ u) x e (g .short)
+  -- the loop holds the step x, whose comparators are to be met
+  abbrev pub Admitting-due : Bool → Bool → Step → Type 0
+  Admitting-due some all x = Due m s (Admitting m s t some all) x
 
-      pub admitting-fewer : ahead (x .stage) (x .left) < ahead stage left
-      admitting-fewer = passes-fewer (g .pass) (sym q ∙ u) x e
+  pub admit-first : Accepts m s → (x : Step) → x ≡ firstStep m s → Admitting-due false true x
+  admit-first a x e = due-first m s (Admitting m s t false true) x e (admitting-start a)
 
-      pub admitting-step : (b : Bool) → b ≡ each (meets (versionIn t)) (stepGives s x) → (c : Bool) → c ≡ isRange (stageOf (x .stage))
-          → Admitting m s t (some || (c && (all && b))) (c || (all && b)) (x .stage) (x .left)
-      admitting-step b i c j =
-          let v = versionIn t in
+  module _ (some all : Bool) (x : Step) (d : Admitting-due some all x) where
+    here : Passes (d .holds .pass) x
+    here = passes (d .holds .pass) (d .goes) x (d .is)
+
+    pub admit-known : Known s x
+    admit-known = known (d .holds .pass) (d .goes) x (d .is) (d .holds .short)
+
+    pub admit-left : x .left ≤ length s
+    admit-left = here .next .within
+
+    -- its comparators are met, or not
+    module _ (b : Bool) (i : b ≡ each (meets (versionIn t)) (stepGives s x)) (c : Bool) (j : c ≡ isRange (stageOf (x .stage))) where
+      behind : Admitting m s t (some || (c && (all && b))) (c || (all && b)) (x .stage) (x .left)
+      behind =
+          let v = versionIn t in let st = stageOf (d .stage) in
           record {
-            reads = g .reads;
-            is = g .is;
+            reads = d .holds .reads;
+            is = d .holds .is;
             pass = here .next;
-            short = g .short;
+            short = d .holds .short;
             rest =
                 sym (ap (λ k. todo (verdict v) (stageOf (x .stage)) k (here .next .coming)) (next-verdict v (stageOf (x .stage)) some (all && b) c j))
                 ∙ sym (todo-next (verdict v) (ended v) (verdict-open v) (within some (all && b)) (here .next .walks))
                 ∙ ap (λ k. verdict v k (here .next .coming))
-                (sym (after-piece v (stageOf stage) some all b (here .of) (g .fresh) (i ∙ ap (each (meets v)) (here .gives))))
-                ∙ sym (todo-push (verdict v) (λ k x r. r) (after v) (verdict-push v) (stageOf stage) (verdictAt (stageOf stage) some all) (here .of) (here .next .coming))
-                ∙ ap (todo (verdict v) (stageOf stage) (verdictAt (stageOf stage) some all)) (sym (here .is))
-                ∙ g .rest;
+                (sym (after-piece v st some all b (here .of) (d .holds .fresh) (i ∙ ap (each (meets v)) (here .gives))))
+                ∙ sym (todo-push (verdict v) (λ k x r. r) (after v) (verdict-push v) st (verdictAt st some all) (here .of) (here .next .coming))
+                ∙ ap (todo (verdict v) st (verdictAt st some all)) (sym (here .is))
+                ∙ d .holds .rest;
             fresh = λ k. ap (λ d. d || (all && b)) (j ∙ k);
           }
 
-    pub admitting-end : y ≡ false → Admits m s t (some || all)
-    admitting-end u =
-        record {
-          is =
-              λ rs k.
-              let w : g .reads ≡ rs = same (sym (g .is) ∙ k) in
-              sym (last-verdict (versionIn t) (stageOf stage) some all (sym q ∙ u))
-              ∙ sym (todo-end (verdict (versionIn t)) (ended (versionIn t)) (verdict-open (versionIn t)) (stageOf stage) (verdictAt (stageOf stage) some all) (sym q ∙ u))
-              ∙ ap (todo (verdict (versionIn t)) (stageOf stage) (verdictAt (stageOf stage) some all)) (sym (passing-end (g .pass) (sym q ∙ u)))
-              ∙ g .rest ∙ ap (λ r. admits r (versionIn t)) w;
-        }
-      where
-        same : {a b : E.Reading} → accepted a ≡ accepted b → a ≡ b
-        same e = cc
+      module _ (y : Bool) (q : y ≡ goesOn (stageOf (x .stage))) where
+        -- another step is to come
+        module _ (u : not y ≡ false) (x′ : Step) (e : x′ ≡ stepAt m (stageOf (x .stage)) (Rest s (x .left))) where
+          pub admit-next : Admitting-due (some || (c && (all && b))) (c || (all && b)) x′
+          admit-next = record { stage = x .stage; left = x .left; holds = behind; goes = sym q ∙ not-false y u; is = e }
 
-pub ruleset admitting = (admitting-start, admitting-known, admitting-fewer, admitting-step, admitting-end)
+          pub admit-fewer : ahead (x′ .stage) (x′ .left) < ahead (x .stage) (x .left)
+          admit-fewer = passes-fewer (here .next) (sym q ∙ not-false y u) x′ e
+
+        -- none is
+        pub admit-end : not y ≡ true → Admits m s t ((some || (c && (all && b))) || (c || (all && b)))
+        admit-end u = admitting-end (some || (c && (all && b))) (c || (all && b)) (x .stage) (x .left) behind (sym q ∙ not-true y u)
+
+pub ruleset admitting = (admit-first, admit-known, admit-left, admit-next, admit-fewer, admit-end)
 
 -- ---- admit_version, admit
 

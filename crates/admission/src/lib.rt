@@ -4,7 +4,7 @@ ghost use Rattle.rules.specs.Lists.{each};
 ghost use Rattle.rules.specs.Precedence.{comparePrereleases};
 ghost use Rattle.rules.specs.Admission.{meets, admissionCall};
 ghost use Rattle.range.specs.Views.{compatOf};
-ghost use Rattle.passes.specs.Views.{Accepts, Known, Raisable, comparatorOf, keptWith, raisedGives, stepGives, stepIdentifiers};
+ghost use Rattle.passes.specs.Views.{firstStep, Accepts, Known, Raisable, comparatorOf, keptWith, raisedGives, stepGives, stepIdentifiers};
 ghost use Rattle.precedence.specs.Views.{orderOf};
 ghost use Rattle.admission.specs.Views.{versionIn, prereleaseIn, Held, Admits, answerOf};
 use partial::Op;
@@ -19,7 +19,7 @@ use range::Compat;
 use range::Kept;
 use rangeset::Reading;
 use rangeset::Refusal;
-use rangeset::count;
+use rangeset::count_after;
 use version::Version;
 use version::VersionText;
 use version::read_version;
@@ -96,26 +96,27 @@ fn meets_step(t: &[u8], v: Version, s: &[u8], x: Step) -> bool
 // ---- all ranges
 
 // some: a range before this one admits the version; all: the version meets this one's comparators so far.
-fn admits(s: &[u8], compat: Compat, t: &[u8], v: Version) -> bool
+fn admits(s: &[u8], compat: Compat, first: Step, t: &[u8], v: Version) -> bool
     requires { ⌜ Accepts (compatOf compat) (now s) ⌝ }
+    requires { ⌜ first ≡ firstStep (compatOf compat) (now s) ⌝ }
     requires { ⌜ Held (now t) v ⌝ }
     ensures { λ r. ⌜ Admits (compatOf compat) (now (s .entry)) (now (t .entry)) r ⌝ }
 {
     let mut some = false;
     let mut all = true;
-    let mut stage = Stage::Range;
-    let mut left = s.len();
-    while goes_on(stage) {
-        let at = s.len() - left;
-        let x = next(&s[at..], stage, compat);
+    let mut x = first;
+    loop {
         let met = all & meets_step(t, v, s, x);
-        stage = x.stage;
-        left = x.left;
+        let stage = x.stage;
         let ended = is_range(stage);
         some = some | (ended & met);
         all = ended | met;
+        if !goes_on(stage) {
+            return some | all;
+        }
+        let at = s.len() - x.left;
+        x = next(&s[at..], stage, compat);
     }
-    some | all
 }
 
 // ---- the call
@@ -127,8 +128,9 @@ pub enum Admission {
 }
 
 // The answer for a range text to which none of 1 to 4 applies.
-fn admit_version(s: &[u8], compat: Compat, t: &[u8]) -> Admission
+fn admit_version(s: &[u8], compat: Compat, first: Step, t: &[u8]) -> Admission
     requires { ⌜ Accepts (compatOf compat) (now s) ⌝ }
+    requires { ⌜ first ≡ firstStep (compatOf compat) (now s) ⌝ }
     ensures { λ r. ⌜ answerOf r ≡ admissionCall (compatOf compat) (now (s .entry)) (now (t .entry)) ⌝ }
 {
     let w = read_version(t);
@@ -136,7 +138,7 @@ fn admit_version(s: &[u8], compat: Compat, t: &[u8]) -> Admission
         VersionText::NoVersion => Admission::Refused(Refusal::NoVersion),
         VersionText::TooLarge => Admission::Refused(Refusal::VersionTooLarge),
         VersionText::Version(v) => {
-            if admits(s, compat, t, v) {
+            if admits(s, compat, first, t, v) {
                 return Admission::Yes;
             }
             Admission::No
@@ -148,9 +150,10 @@ fn admit_version(s: &[u8], compat: Compat, t: &[u8]) -> Admission
 pub fn admit(s: &[u8], compat: Compat, t: &[u8]) -> Admission
     ensures { λ r. ⌜ answerOf r ≡ admissionCall (compatOf compat) (now (s .entry)) (now (t .entry)) ⌝ }
 {
-    let r = count(s, compat);
+    let first = next(s, Stage::Range, compat);
+    let r = count_after(s, compat, first);
     let Reading::Refused(refusal) = r else {
-        return admit_version(s, compat, t);
+        return admit_version(s, compat, first, t);
     };
     Admission::Refused(refusal)
 }

@@ -3,57 +3,21 @@
 // under the two that have most comparators and most identifiers, whether they admit a version.
 use admission::Admission;
 use admission::admit;
+use printing::every_second;
+use printing::put;
+use printing::put_counts;
+use printing::put_line;
+use printing::put_mode;
+use printing::put_number;
+use printing::put_words;
 use range::Compat;
-use rangeset::Reading;
 use rangeset::read;
-
-fn put(text: &[u8]) {
-    io::write_all(1, text);
-}
-
-fn put_number(n: u64) {
-    put(b" ");
-    io::print_decimal(1, n);
-}
-
-fn put_mode(compat: Compat) {
-    match compat {
-        Compat::Cargo => put(b" cargo"),
-        Compat::Npm => put(b" npm"),
-    }
-}
-
-fn put_words(words: &[u64]) {
-    let mut i = 0;
-    while i < words.len() {
-        put_number(words[i]);
-        i += 1;
-    }
-    put(b"\n");
-}
-
-// 01's number and the three counts.
-fn put_answer(r: Reading) {
-    match r {
-        Reading::Accepted(counts) => {
-            put_number(0);
-            put_number(counts.ranges as u64);
-            put_number(counts.comparators as u64);
-            put_number(counts.identifiers as u64);
-            put(b"\n");
-        }
-        Reading::Refused(refusal) => {
-            put_number(refusal.number());
-            put(b" 0 0 0\n");
-        }
-    }
-}
 
 // One reading, and then all lent words.
 fn show_in(text: &[u8], compat: Compat, words: &mut [u64], ids: &mut [u64]) {
     put_mode(compat);
-    put_answer(read(text, compat, words, ids));
-    put(b"  comparators");
+    put_counts(read(text, compat, words, ids));
+    put(b"\n  comparators");
     put_words(words);
     put(b"  identifiers");
     put_words(ids);
@@ -63,8 +27,7 @@ fn show_in(text: &[u8], compat: Compat, words: &mut [u64], ids: &mut [u64]) {
 fn show(text: &[u8]) {
     let mut words = [7u64; 27];
     let mut ids = [7u64; 7];
-    put(text);
-    put(b"\n");
+    put_line(text);
     show_in(text, Compat::Cargo, &mut words, &mut ids);
     let mut more = [7u64; 27];
     let mut others = [7u64; 7];
@@ -73,8 +36,7 @@ fn show(text: &[u8]) {
 
 // A text that needs twelve words and six: with a word less for both, for comparators, for identifiers, and with just those.
 fn show_room(text: &[u8]) {
-    put(text);
-    put(b"\n");
+    put_line(text);
     show_in(text, Compat::Npm, &mut [7u64; 11], &mut [7u64; 5]);
     show_in(text, Compat::Npm, &mut [7u64; 11], &mut [7u64; 6]);
     show_in(text, Compat::Npm, &mut [7u64; 12], &mut [7u64; 5]);
@@ -87,7 +49,8 @@ fn count(name: &[u8], text: &[u8]) {
     let mut ids = [7u64; 98304];
     put(name);
     put_mode(Compat::Npm);
-    put_answer(read(text, Compat::Npm, &mut words, &mut ids));
+    put_counts(read(text, Compat::Npm, &mut words, &mut ids));
+    put(b"\n");
 }
 
 fn blanks() {
@@ -116,15 +79,6 @@ fn ask(text: &[u8], version: &[u8]) {
             put_number(refusal.number());
             put(b"\n");
         }
-    }
-}
-
-// Every second byte from the first on.
-fn every_second(text: &mut [u8], b: u8) {
-    let mut i = 0;
-    while i < text.len() {
-        text[i] = b;
-        i += 2;
     }
 }
 

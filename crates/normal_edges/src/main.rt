@@ -10,43 +10,19 @@ use equality::equal_readings;
 use equality::read_normal_text;
 use normal_text::NormalText;
 use normal_text::normal_text;
+use printing::every_second;
+use printing::put;
+use printing::put_counts;
+use printing::put_line;
+use printing::put_mode;
+use printing::put_number;
+use printing::put_words;
 use range::Compat;
-use rangeset::Reading;
-
-fn put(text: &[u8]) {
-    io::write_all(1, text);
-}
-
-fn put_number(n: u64) {
-    put(b" ");
-    io::print_decimal(1, n);
-}
-
-fn put_mode(compat: Compat) {
-    match compat {
-        Compat::Cargo => put(b" cargo"),
-        Compat::Npm => put(b" npm"),
-    }
-}
-
-fn put_line(text: &[u8]) {
-    put(text);
-    put(b"\n");
-}
 
 fn put_quoted(text: &[u8]) {
     put(b"`");
     put(text);
     put(b"`");
-}
-
-fn put_words(words: &[u64]) {
-    let mut i = 0;
-    while i < words.len() {
-        put_number(words[i]);
-        i += 1;
-    }
-    put(b"\n");
 }
 
 fn held(b: u8) -> u64
@@ -129,15 +105,6 @@ fn show_long(name: &[u8], text: &[u8], out: &mut [u8]) {
     put_end(out);
 }
 
-// Every second byte from the first on.
-fn every_second(text: &mut [u8], b: u8) {
-    let mut i = 0;
-    while i < text.len() {
-        text[i] = b;
-        i += 2;
-    }
-}
-
 // The longest normal text: with just its bytes, and with a byte less.
 fn longest() {
     let mut text = [b' '; 65535];
@@ -154,22 +121,6 @@ fn blanks() {
 }
 
 // ---- normal texts, read again
-
-// 01's number and the three counts.
-fn put_counts(r: Reading) {
-    match r {
-        Reading::Accepted(counts) => {
-            put_number(0);
-            put_number(counts.ranges as u64);
-            put_number(counts.comparators as u64);
-            put_number(counts.identifiers as u64);
-        }
-        Reading::Refused(refusal) => {
-            put_number(refusal.number());
-            put(b" 0 0 0");
-        }
-    }
-}
 
 // One call, and then all lent bytes and words.
 fn reread_in(

@@ -2,4 +2,5 @@ pub mod Raising
 pub mod Turn
 pub mod Qualified
 pub mod Passing
+pub mod Due
 pub mod Folds

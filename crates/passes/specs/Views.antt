@@ -20,6 +20,7 @@ use Rattle.range.specs.declared.Kept.{Kept}
 use Rattle.range.specs.declared.Kept.the-variants as Kept
 use Rattle.range.specs.declared.Raised.{Raised}
 use Rattle.range.specs.declared.Raised.the-variants as Raised
+use Rattle.walk.specs.Views.{stepAt}
 use Rattle.walk.specs.declared.Step.{Step}
 
 -- ---- the loop
@@ -40,6 +41,10 @@ opened right = 0
 opened only = 0
 opened end = 0
 opened bad = 0
+
+-- the step with which every pass over the text s begins
+abbrev pub firstStep : E.Compat → List ℕ → Step
+firstStep m s = stepAt m range s
 
 -- None of 1 to 4 applies to the text: what each pass behind the measure requires.
 pub record Accepts (m : E.Compat) (s : List ℕ) : Type 0 where

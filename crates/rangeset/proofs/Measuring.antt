@@ -19,8 +19,9 @@ use Rattle.walk.specs.Views.{stageOf, stepAt}
 use Rattle.walk.specs.declared.Stage.{Stage}
 use Rattle.walk.specs.declared.Stage.the-variants as Stages
 use Rattle.walk.specs.declared.Step.{Step}
-use Rattle.passes.specs.Views.{isEnd, opened, comparatorCountOf}
+use Rattle.passes.specs.Views.{isEnd, opened, firstStep, comparatorCountOf}
 use Rattle.passes.proofs.Turn.{concat-push, concat-opening, ahead, ended, failed, Turn, turn, turn-fewer}
+use Rattle.passes.proofs.Due.{first-here}
 use Rattle.rangeset.specs.Views.{tallyOf}
 use Rattle.rangeset.specs.declared.Tally.{Tally}
 
@@ -104,7 +105,7 @@ pub record Measured (m : E.Compat) (s : List ℕ) (ranges comparators identifier
   pub fewRanges : ranges + ahead stage left ≤ suc (length s)
   pub fewComparators : comparators + 2 * ahead stage left ≤ 2 * suc (length s)
 
-pub measured-start : (m : E.Compat) (s : List ℕ) → Measured m s 0 0 0 false false Stages.Range (length s)
+measured-start : (m : E.Compat) (s : List ℕ) → Measured m s 0 0 0 false false Stages.Range (length s)
 measured-start m s =
     record {
       coming = mapOption (λ rs. [] ∷ rs) (walkOf m (readText s));
@@ -151,4 +152,11 @@ module _ (m : E.Compat) (s : List ℕ) (ranges comparators identifiers : ℕ) (l
     pub measured-bad : z ≡ false → record { found = false; ranges = 0; comparators = 0; identifiers = 0; large = false; over = false } ≡ tallyOf (walkOf m (readText s))
     measured-bad u = sym (g .counts ∙ ap (plus ranges comparators identifiers large over) (failed (g .walks) (sym q ∙ t) (sym p ∙ u)))
 
-pub ruleset measuring = (measured-start, measured-fewer, measured-step, measured-end, measured-bad)
+-- behind the first step
+pub measured-first : (m : E.Compat) (s : List ℕ) (x : Step) → x ≡ firstStep m s → (b : ℕ) → b ≡ comparatorCountOf x → b ≤ 2
+    → Measured m s 1 b (x .count) (x .large) (x .over) (x .stage) (x .left)
+measured-first m s x e b j jb =
+    let i : 0 + b ≡ b = omega arith in let k : 0 + x .count ≡ x .count = omega arith in
+    rw (i, k) at (measured-step m s 0 0 0 false false Stages.Range (length s) (measured-start m s) true refl refl x (first-here m s x e) 1 refl (omega arith) b j jb)
+
+pub ruleset measuring = (measured-first, measured-fewer, measured-step, measured-end, measured-bad)

@@ -225,5 +225,7 @@ module _ (m : Compat) (s w i : List ℕ) where
           pub accepts-ids : (x : List ℕ) → x ≡ identifierWordsAfter s (reading m s) i → x ≡ identifierWordsAfter s answer i
           accepts-ids x p = p ∙ ap (λ a. identifierWordsAfter s a i) whole
 
+pub ruleset accepting = (accepts-result, accepts-words, accepts-ids)
+
 pub ruleset outcomes =
-    (refuses-result, refuses-words, refuses-ids, comparators-result, comparators-words, comparators-ids, identifiers-result, identifiers-words, identifiers-ids, writable, accepts-result, accepts-words, accepts-ids)
+    (refuses-result, refuses-words, refuses-ids, comparators-result, comparators-words, comparators-ids, identifiers-result, identifiers-words, identifiers-ids, writable)

@@ -1,4 +1,5 @@
-// Range sets: `RangeSet::parse` of src/range_set.rs. Two passes over the text: the measure counts, then the rows are written.
+// Range sets: `RangeSet::parse` of src/range_set.rs. Two passes over the text: the measure counts, then the rows are written. Both begin with the
+// text's first step, which is read once.
 ghost use mathlib.Core.Path.{_≡_};
 ghost use Rattle.rules.specs.Parse.{readText};
 ghost use Prim.Native.Nat.{_+_, _≤_};
@@ -7,7 +8,7 @@ ghost use Rattle.rules.specs.Answers.{identifierBytes, longest, reading, readin
 ghost use Rattle.rules.specs.Walk.{walkOf};
 ghost use Rattle.range.specs.Views.{compatOf};
 ghost use Rattle.rows.specs.Put.{Put};
-ghost use Rattle.passes.specs.Views.{Raisable, Signed};
+ghost use Rattle.passes.specs.Views.{firstStep, Raisable, Signed};
 ghost use Rattle.rangeset.specs.Views.{tallyOf, keptIn, raisedIn, stepComparatorWords, stepIdentifierWords, Writable, numberOf, outcomeOf};
 use passes::comparator_count;
 use passes::goes_on;
@@ -37,17 +38,18 @@ pub struct Tally {
     pub over: bool,
 }
 
-fn measure(s: &[u8], compat: Compat) -> Tally
+fn measure(s: &[u8], compat: Compat, first: Step) -> Tally
     requires { ⌜ length (now s) ≤ longest ⌝ }
+    requires { ⌜ first ≡ firstStep (compatOf compat) (now s) ⌝ }
     ensures { λ r. ⌜ r ≡ tallyOf (walkOf (compatOf compat) (readText (now (s .entry)))) ⌝ }
 {
-    let mut ranges = 0;
-    let mut comparators = 0;
-    let mut identifiers = 0;
-    let mut large = false;
-    let mut over = false;
-    let mut stage = Stage::Range;
-    let mut left = s.len();
+    let mut ranges = 1;
+    let mut comparators = comparator_count(first);
+    let mut identifiers = first.count;
+    let mut large = first.large;
+    let mut over = first.over;
+    let mut stage = first.stage;
+    let mut left = first.left;
     while goes_on(stage) {
         let at = s.len() - left;
         let x = next(&s[at..], stage, compat);
@@ -127,14 +129,15 @@ pub enum Reading {
     Refused(Refusal),
 }
 
-// What a text has, if none of 1 to 4 applies to it.
-pub fn count(s: &[u8], compat: Compat) -> Reading
+// What a text has whose first step this is, if none of 1 to 4 applies to it.
+pub fn count_after(s: &[u8], compat: Compat, first: Step) -> Reading
+    requires { ⌜ first ≡ firstStep (compatOf compat) (now s) ⌝ }
     ensures { λ r. ⌜ outcomeOf r ≡ readingOutcome (reading (compatOf compat) (now (s .entry))) ⌝ }
 {
     if s.len() > 65535 {
         return Reading::Refused(Refusal::TooLong);
     }
-    let t = measure(s, compat);
+    let t = measure(s, compat, first);
     if !t.found {
         return Reading::Refused(Refusal::NoReading);
     }
@@ -149,6 +152,14 @@ pub fn count(s: &[u8], compat: Compat) -> Reading
         comparators: t.comparators,
         identifiers: t.identifiers,
     })
+}
+
+// What a text has, if none of 1 to 4 applies to it.
+pub fn count(s: &[u8], compat: Compat) -> Reading
+    ensures { λ r. ⌜ outcomeOf r ≡ readingOutcome (reading (compatOf compat) (now (s .entry))) ⌝ }
+{
+    let first = next(s, Stage::Range, compat);
+    count_after(s, compat, first)
 }
 
 // ---- the rows of a step
@@ -229,7 +240,8 @@ fn put_qualifier_at(s: &[u8], x: Step, ids: &mut [u64], at: usize) -> usize
 
 // ---- all rows
 
-fn put_ranges(s: &[u8], compat: Compat, words: &mut [u64], ids: &mut [u64])
+fn put_ranges(s: &[u8], compat: Compat, first: Step, words: &mut [u64], ids: &mut [u64])
+    requires { ⌜ first ≡ firstStep (compatOf compat) (now s) ⌝ }
     requires { ⌜ Writable (compatOf compat) (now s) (length (now words)) (length (now ids)) ⌝ }
     ensures { λ _. ⌜ now (words .exit) ≡ comparatorWordsAfter (reading (compatOf compat) (now (s .entry))) (now (words .entry)) ⌝ }
     ensures ids { λ _. ⌜ now (ids .exit) ≡ identifierWordsAfter (now (s .entry)) (reading (compatOf compat) (now (s .entry))) (now (ids .entry)) ⌝ }
@@ -237,16 +249,17 @@ fn put_ranges(s: &[u8], compat: Compat, words: &mut [u64], ids: &mut [u64])
     let mut range = 0;
     let mut at = 0;
     let mut to = 0;
-    let mut stage = Stage::Range;
-    let mut left = s.len();
-    while goes_on(stage) {
-        let from = s.len() - left;
-        let x = next(&s[from..], stage, compat);
+    let mut x = first;
+    loop {
         at = put_comparators_at(words, at, range as u64, x);
         to = put_qualifier_at(s, x, ids, to);
-        stage = x.stage;
-        left = x.left;
+        let stage = x.stage;
+        if !goes_on(stage) {
+            return;
+        }
         range += opened(stage);
+        let from = s.len() - x.left;
+        x = next(&s[from..], stage, compat);
     }
 }
 
@@ -257,7 +270,8 @@ pub fn read(s: &[u8], compat: Compat, words: &mut [u64], ids: &mut [u64]) -> Rea
     ensures words { λ _. ⌜ now (words .exit) ≡ comparatorWordsAfter (readingCall (compatOf compat) (now (s .entry)) (length (now (words .entry))) (length (now (ids .entry)))) (now (words .entry)) ⌝ }
     ensures ids { λ _. ⌜ now (ids .exit) ≡ identifierWordsAfter (now (s .entry)) (readingCall (compatOf compat) (now (s .entry)) (length (now (words .entry))) (length (now (ids .entry)))) (now (ids .entry)) ⌝ }
 {
-    let r = count(s, compat);
+    let first = next(s, Stage::Range, compat);
+    let r = count_after(s, compat, first);
     let Reading::Accepted(counts) = r else {
         return r;
     };
@@ -267,7 +281,7 @@ pub fn read(s: &[u8], compat: Compat, words: &mut [u64], ids: &mut [u64]) -> Rea
     if counts.identifiers > ids.len() / 3 {
         return Reading::Refused(Refusal::IdentifiersShort);
     }
-    put_ranges(s, compat, words, ids);
+    put_ranges(s, compat, first, words, ids);
     r
 }
 

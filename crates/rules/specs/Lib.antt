@@ -16,5 +16,6 @@ pub mod Version
 pub mod Precedence
 pub mod Admission
 pub mod Admits
+pub mod Exported
 pub mod Examples
 pub mod AdmissionExamples

@@ -1,17 +1,17 @@
--- `next`: a law for each of its ways.
+-- `read_piece` and `next`: a law for each of their ways.
 -- Assumes nothing.
-use Prim.Native.Nat.{ℕ, _-_, _≤_}
+use Prim.Native.Nat.{ℕ, suc, _+_, _-_, _≤_}
 use native.Mathlib.Omega.{arith}
-use mathlib.Core.Path.{_≡_, refl, _∙_, sym, ap}
+use mathlib.Core.Path.{_≡_, refl, _∙_, sym, ap, ap₂}
 use mathlib.Core.Bool.{Bool, true, false}
-use mathlib.Core.List.{List}
+use mathlib.Core.List.{List, [], _∷_}
 use lib.ListN.{length, drop}
-use Rattle.rules.specs.Bytes.{pick}
+use Rattle.rules.specs.Bytes.{pick, isSpace}
 use Rattle.rules.specs.Syntax as S
-use Rattle.rules.specs.Parse.{Result, fail, ok, skip, leftOf, readPartial}
+use Rattle.rules.specs.Parse.{Result, fail, ok, count, skip, leftOf, readPartial}
 use Rattle.rules.specs.Expansion as E
 use Rattle.rules.specs.Walk as W
-use Rattle.rules.proofs.Left.{Behind, behind-both, partial-behind, Took, took, failed}
+use Rattle.rules.proofs.Left.{Behind, behind-both, behind-left, partial-behind, Took, took, failed}
 use Rattle.partial.specs.Views.{held, partialOf, fromStart}
 use Rattle.partial.specs.declared.Partial.{Partial}
 use Rattle.partial.proofs.Unread.{Rest}
@@ -20,11 +20,11 @@ use Rattle.range.specs.Views.{compatOf, prefixOf, prefixFor}
 use Rattle.range.specs.declared.Compat.{Compat}
 use Rattle.range.specs.declared.Lead.{Lead}
 use Rattle.range.proofs.Leads.{prefix-read}
-use Rattle.walk.specs.Views.{stageOf, behindOf, isRange, partialText, prefixText, leadAt, stepOf, stepAt, unreadAt, behindAt, takenRight, takenAt, Takes}
+use Rattle.walk.specs.Views.{stageOf, behindOf, isRange, itemText, partialText, prefixText, leadAt, stepOf, stepAt, unreadAt, behindAt, takenRight, takenAt, Takes}
 use Rattle.walk.specs.declared.Stage.{Stage}
 use Rattle.walk.specs.declared.Behind as Code
 use Rattle.walk.specs.declared.Step.{Step}
-use Rattle.walk.proofs.Starts.{rest-behind, partialText-behind}
+use Rattle.walk.proofs.Starts.{rest-behind, itemText-behind, partialText-behind}
 
 either-way : {A B : Type 0} {b : B} (g : Result A) → b ≡ W.answer g (λ a r. b) b
 either-way fail = refl
@@ -87,3 +87,47 @@ module _ (s : List ℕ) (st : Stage) (c : Compat) (l : Lead) (e : l ≡ leadAt (
       (t .is (y .answer) (fromStart text) (length u) (behindAt (stageOf st) (prefixOf (l .prefix)) u) (is-read ∙ ap (partialOf text (fromStart text)) (y .is)) (rw w at k))
 
 pub ruleset nexts = (next-unread, next-taken)
+
+-- ---- the spaces before it
+
+skip-twice : (s : List ℕ) → skip (skip s) ≡ skip s
+unfolding count
+skip-twice [] = refl
+skip-twice (c ∷ s) = go (isSpace c) refl (skip-twice s)
+  where
+    go : (b : Bool) → isSpace c ≡ b → skip (skip s) ≡ skip s → skip (drop (pick b (suc (count isSpace s)) 0) (c ∷ s)) ≡ drop (pick b (suc (count isSpace s)) 0) (c ∷ s)
+    go true e h = h
+    go false e h = rw e
+
+item-twice : (st : W.Stage) (s : List ℕ) → itemText st (itemText st s) ≡ itemText st s
+item-twice st s = go (isRange st)
+  where
+    go : (b : Bool) → pick b (skip (pick b (skip s) s)) (pick b (skip s) s) ≡ pick b (skip s) s
+    go true = skip-twice s
+    go false = refl
+
+-- a step is that of the text behind them
+step-skipped : (m : E.Compat) (st : W.Stage) (s : List ℕ) → stepAt m st (itemText st s) ≡ stepAt m st s
+unfolding partialText W.next
+step-skipped m W.range s =
+    ap₂ (λ t x. stepOf (fromStart t) x) (ap W.partialAt (skip-twice s)) (ap (λ t. W.nextItem m true (W.stepTo E.everything (W.afterRange t)) t) (skip-twice s))
+step-skipped m W.item s = refl
+step-skipped m W.right s = refl
+step-skipped m W.only s = refl
+step-skipped m W.end s = refl
+step-skipped m W.bad s = refl
+
+module _ (st : Stage) (s : List ℕ) (n : ℕ) (k : n ≡ length (itemText (stageOf st) s)) where
+  from-item : Rest s n ≡ itemText (stageOf st) s
+  from-item = rest-behind (itemText-behind (stageOf st) s) n k
+
+  pub skipped-spaces : itemText (stageOf st) (Rest s n) ≡ Rest s n
+  skipped-spaces = rw from-item (item-twice (stageOf st) s)
+
+  pub skipped-step : (c : Compat) (r : Step) → r ≡ stepAt (compatOf c) (stageOf st) (Rest s n) → r ≡ stepAt (compatOf c) (stageOf st) s
+  skipped-step c r e = e ∙ ap (stepAt (compatOf c) (stageOf st)) from-item ∙ step-skipped (compatOf c) (stageOf st) s
+
+  pub skipped-within : (r : Step) → r .count + r .left ≤ length (Rest s n) → r .count + r .left ≤ length s
+  skipped-within r h = omega (arith, ap length from-item, behind-left (itemText-behind (stageOf st) s))
+
+pub ruleset skipped = (skipped-spaces, skipped-step, skipped-within)

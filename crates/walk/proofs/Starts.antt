@@ -33,7 +33,7 @@ partialAt-behind s = go (prefix-behind s)
     go (gives {r} h) = behind-both h (count-behind isSpace r) (omega arith)
 
 module _ (st : W.Stage) (s : List ℕ) where
-  itemText-behind : Behind 0 s (itemText st s)
+  pub itemText-behind : Behind 0 s (itemText st s)
   itemText-behind = go (isRange st)
     where
       go : (b : Bool) → Behind 0 s (pick b (skip s) s)
@@ -79,9 +79,9 @@ module _ (st : Stage) (s : List ℕ) (y : Bool) where
   pub spaces-other : y ≡ isRange (stageOf st) → y ≡ false → length s ≡ length (itemText (stageOf st) s)
   spaces-other q e = rw (sym q ∙ e)
 
-  pub lead-item : y ≡ isItem (stageOf st) → y ≡ true → (n : ℕ) → n ≡ length (itemText (stageOf st) s) → (l : Lead) → l ≡ leadItem (Rest s n) → l ≡ leadAt (stageOf st) s
+  pub lead-item : y ≡ isItem (stageOf st) → y ≡ true → itemText (stageOf st) s ≡ s → (l : Lead) → l ≡ leadItem s → l ≡ leadAt (stageOf st) s
   unfolding leadAt partialText prefixText
-  lead-item q e n k l p = rw (sym q ∙ e) (rw (rest-behind (itemText-behind (stageOf st) s) n k) at p)
+  lead-item q e h l p = rw (sym q ∙ e) (p ∙ ap leadItem (sym h))
 
   pub lead-none : y ≡ isItem (stageOf st) → y ≡ false → leading Prefix.Bare (length s) ≡ leadAt (stageOf st) s
   unfolding leadAt partialText prefixText

@@ -32,7 +32,7 @@ use Rattle.range.specs.declared.Raised.{Raised}
 use Rattle.range.specs.declared.Raised.the-variants as Raises
 use Rattle.range.specs.declared.Expansion.{Expansion}
 use Rattle.range.proofs.Shapes.{item-shape, left-shape, right-shape}
-use Rattle.walk.specs.Views.{stageOf, stageFor, standing, behindOf, isItem, isRange, isRight, isLost, componentFor, overOf, stepOf, everythingTo, unreadAt, takenRight, takenAt, Steps, Takes}
+use Rattle.walk.specs.Views.{stageOf, stageFor, standing, behindOf, isItem, isRange, isRight, isLost, itemText, componentFor, overOf, stepOf, everythingTo, unreadAt, takenRight, takenAt, Steps, Takes}
 use Rattle.walk.specs.declared.Stage.{Stage}
 use Rattle.walk.specs.declared.Stage.the-variants as Stages
 use Rattle.walk.specs.declared.Behind.{Behind}
@@ -214,19 +214,12 @@ pub ruleset takings = (taken-item, taken-right)
 
 -- ---- no partial
 
-skip-twice : (s : List ℕ) → skip (skip s) ≡ skip s
-unfolding count
-skip-twice [] = refl
-skip-twice (c ∷ s) = go (isSpace c) refl (skip-twice s)
-  where
-    go : (b : Bool) → isSpace c ≡ b → skip (skip s) ≡ skip s → skip (drop (pick b (suc (count isSpace s)) 0) (c ∷ s)) ≡ drop (pick b (suc (count isSpace s)) 0) (c ∷ s)
-    go true e h = h
-    go false e h = rw e
-
 module _ (st : Stage) (s : List ℕ) (y : Bool) (q : y ≡ isRange (stageOf st)) (r : Step) where
-  pub unread-range : y ≡ true → (b : Behind) → b ≡ behindOf (W.afterRange s) → r ≡ everythingTo (b .stage) (b .left) → r ≡ stepOf 0 (unreadAt (stageOf st) s)
+  pub unread-range : y ≡ true → itemText (stageOf st) s ≡ s → (b : Behind) → b ≡ behindOf (W.closes s) → r ≡ everythingTo (b .stage) (b .left)
+      → r ≡ stepOf 0 (unreadAt (stageOf st) s)
   unfolding unreadAt stepOf
-  unread-range e b h k = k ∙ rw (sym q ∙ e, skip-twice s, h) (made (W.afterRange s))
+  unread-range e i b h k =
+      let z : skip s ≡ s = ap (λ x. pick x (skip s) s) (sym (sym q ∙ e)) ∙ i in k ∙ rw (sym q ∙ e, z, z, h) (made (W.closes s))
     where
       made : (w : W.Behind) → everythingTo (behindOf w .stage) (behindOf w .left) ≡ stepOf 0 (W.stepTo E.everything w)
       made (W.behind st t) = refl

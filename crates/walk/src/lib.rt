@@ -214,15 +214,14 @@ fn skip_to_item(s: &[u8], stage: Stage) -> usize
     s.len()
 }
 
-// The prefix by stage: a hyphen's right side has none.
+// The prefix by stage, where no spaces are to be skipped: a hyphen's right side has none.
 fn lead_at(s: &[u8], stage: Stage) -> Lead
+    requires { ⌜ itemText (stageOf stage) (now s) ≡ now s ⌝ }
     ensures { λ r. ⌜ r ≡ leadAt (stageOf stage) (now (s .entry)) ⌝ }
     ensures within { λ r. ⌜ r .left ≤ length (now (s .entry)) ⌝ }
 {
     if is_item(stage) {
-        let n = skip_to_item(s, stage);
-        let at = s.len() - n;
-        return lead_item(&s[at..]);
+        return lead_item(s);
     }
     Lead {
         prefix: Prefix::Bare,
@@ -392,19 +391,21 @@ fn taken(p: Partial, prefix: Prefix, stage: Stage, b: Behind, compat: Compat) ->
 
 // No partial is read: a range may be empty.
 fn unread(s: &[u8], stage: Stage) -> Step
+    requires { ⌜ itemText (stageOf stage) (now s) ≡ now s ⌝ }
     ensures { λ r. ⌜ r ≡ stepOf 0 (unreadAt (stageOf stage) (now (s .entry))) ⌝ }
 {
     let empty = is_range(stage);
     if empty {
-        let b = after_range(s);
+        let b = closes(s);
         let next = b.stage;
         return Step::everything(next, b.left);
     }
     Step::stuck()
 }
 
-// One piece, expanded, and what stands behind it.
-pub fn next(s: &[u8], stage: Stage, compat: Compat) -> Step
+// One piece, expanded, and what stands behind it, where no spaces are to be skipped.
+fn read_piece(s: &[u8], stage: Stage, compat: Compat) -> Step
+    requires { ⌜ itemText (stageOf stage) (now s) ≡ now s ⌝ }
     ensures { λ r. ⌜ r ≡ stepAt (compatOf compat) (stageOf stage) (now (s .entry)) ⌝ }
     ensures within { λ r. ⌜ r .count + r .left ≤ length (now (s .entry)) ⌝ }
 {
@@ -418,4 +419,14 @@ pub fn next(s: &[u8], stage: Stage, compat: Compat) -> Step
     let end = s.len() - p.left;
     let b = after_partial(&s[end..], stage, prefix);
     taken(p, prefix, stage, b, compat)
+}
+
+// One piece, expanded, and what stands behind it.
+pub fn next(s: &[u8], stage: Stage, compat: Compat) -> Step
+    ensures { λ r. ⌜ r ≡ stepAt (compatOf compat) (stageOf stage) (now (s .entry)) ⌝ }
+    ensures within { λ r. ⌜ r .count + r .left ≤ length (now (s .entry)) ⌝ }
+{
+    let n = skip_to_item(s, stage);
+    let at = s.len() - n;
+    read_piece(&s[at..], stage, compat)
 }

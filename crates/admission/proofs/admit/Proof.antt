@@ -8,6 +8,7 @@ admit-spec =
     tie.close
     (tie.spec
     (λ c κs. search (calls, needs))
+    (λ c κs. search (calls, needs))
     (λ c. search (calls, needs))
     (λ c. search (calls, needs))
     (λ c κs. search (calls, needs))

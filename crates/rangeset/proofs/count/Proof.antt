@@ -1,4 +1,4 @@
-use Rattle.rangeset.proofs.Outcomes.{counting}
+use Rattle.rangeset.proofs.Outcomes.{outcomes}
 use borrow.Author.Needs.{needs}
 use Rattle.rangeset.proofs.count.Statement.{statement}
 use Rattle.rangeset.proofs.count.Tie as tie
@@ -7,9 +7,6 @@ pub count-spec : {M : Type 1} → statement M
 count-spec =
     tie.close
     (tie.spec
-    (λ c. search (counting, needs))
-    (λ c κs. search (counting, needs))
-    (λ c. search (counting, needs))
-    (λ c. search (counting, needs))
-    (λ c. search (counting, needs))
-    (λ c. search (counting, needs)))
+    (λ c κs. search (outcomes, needs))
+    (λ c κs. search (outcomes, needs))
+    (λ c. search (outcomes, needs)))

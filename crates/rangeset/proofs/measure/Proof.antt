@@ -1,5 +1,5 @@
-use Rattle.passes.proofs.Turn.{ahead}
 use Rattle.rangeset.proofs.Measuring.{Measured, measuring}
+use Rattle.passes.proofs.Turn.{ahead}
 use Rattle.range.specs.Views.{compatOf}
 use borrow.Author.Needs.{needs}
 use Rattle.rangeset.proofs.measure.Statement.{statement}
@@ -17,6 +17,7 @@ measure-spec =
     (tie.spec
     Inv-loop
     μ-loop
+    (λ c κs. search (measuring, needs))
     (λ c. search (measuring, needs))
     (λ c κs. search (measuring, needs))
     (λ c. search (measuring, needs))

@@ -1,4 +1,4 @@
-use Rattle.rangeset.proofs.Outcomes.{outcomes}
+use Rattle.rangeset.proofs.Outcomes.{accepting, outcomes}
 use borrow.Author.Needs.{needs}
 use Rattle.rangeset.proofs.read.Statement.{statement}
 use Rattle.rangeset.proofs.read.Tie as tie
@@ -8,6 +8,7 @@ read-spec =
     tie.close
     (tie.spec
     (λ c κs. search (outcomes, needs))
+    (λ c κs. search (outcomes, needs))
     (λ c. search (outcomes, needs))
     (λ c. search (outcomes, needs))
     (λ c. search (outcomes, needs))
@@ -16,4 +17,4 @@ read-spec =
     (λ c κs. search (outcomes, needs))
     (λ c. search (outcomes, needs))
     (λ c. search (outcomes, needs))
-    (λ c. search (outcomes, needs)))
+    (λ c. (search (accepting, needs), (search (accepting, needs), search (accepting, needs)))))

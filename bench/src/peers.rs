@@ -1,0 +1,108 @@
+//! What is measured: each peer's act on a text. An act hands back a number, so that nothing of it is left out as unused; what the Rust peers
+//! allocate, they free within the act, and ours is lent its memory.
+
+use std::cell::UnsafeCell;
+
+pub const CARGO: u8 = 0;
+
+extern "C" {
+    fn maluwesi_read(
+        text: *const u8,
+        text_len: usize,
+        mode: u8,
+        words: *mut u64,
+        words_len: usize,
+        ids: *mut u64,
+        ids_len: usize,
+        ranges: &mut usize,
+        comparators: &mut usize,
+        identifiers: &mut usize,
+    ) -> u64;
+    fn maluwesi_normal_text(text: *const u8, text_len: usize, mode: u8, out: *mut u8, out_len: usize, len: &mut usize) -> u64;
+    fn maluwesi_admit(text: *const u8, text_len: usize, mode: u8, version: *const u8, version_len: usize, admitted: &mut u8) -> u64;
+}
+
+/// The memory that is lent: enough for every text of 65,535 bytes.
+struct Lent<T, const N: usize>(UnsafeCell<[T; N]>);
+// One thread runs the acts.
+unsafe impl<T, const N: usize> Sync for Lent<T, N> {}
+static WORDS: Lent<u64, 393_222> = Lent(UnsafeCell::new([0; 393_222]));
+static IDS: Lent<u64, 98_304> = Lent(UnsafeCell::new([0; 98_304]));
+static BYTES: Lent<u8, 524_287> = Lent(UnsafeCell::new([0; 524_287]));
+
+pub struct Peer {
+    pub name: &'static str,
+    pub act: fn(&str) -> Option<u64>,
+}
+
+pub const READERS: [Peer; 3] = [
+    Peer { name: "crate", act: crate_reads },
+    Peer { name: "semver", act: semver_reads },
+    Peer { name: "maluwesi", act: maluwesi_reads },
+];
+
+pub const SPELLERS: [Peer; 2] = [
+    Peer { name: "semver", act: semver_spells },
+    Peer { name: "maluwesi", act: maluwesi_spells },
+];
+
+pub const ADMITTERS: [Peer; 2] = [
+    Peer { name: "semver", act: semver_admits },
+    Peer { name: "maluwesi", act: maluwesi_admits },
+];
+
+fn crate_reads(text: &str) -> Option<u64> {
+    let set = released::RangeSet::parse(text, released::Compat::Cargo).ok()?;
+    Some(set.ranges.len() as u64)
+}
+
+fn semver_reads(text: &str) -> Option<u64> {
+    let range = semver::VersionReq::parse(text).ok()?;
+    Some(range.comparators.len() as u64)
+}
+
+fn maluwesi_reads(text: &str) -> Option<u64> {
+    let (mut ranges, mut comparators, mut identifiers) = (0, 0, 0);
+    // The slices are two statics' own, which nothing else uses while the call runs.
+    let refusal = unsafe {
+        maluwesi_read(
+            text.as_ptr(),
+            text.len(),
+            CARGO,
+            WORDS.0.get().cast(),
+            393_222,
+            IDS.0.get().cast(),
+            98_304,
+            &mut ranges,
+            &mut comparators,
+            &mut identifiers,
+        )
+    };
+    (refusal == 0).then_some(comparators as u64)
+}
+
+fn semver_spells(text: &str) -> Option<u64> {
+    let range = semver::VersionReq::parse(text).ok()?;
+    Some(range.to_string().len() as u64)
+}
+
+fn maluwesi_spells(text: &str) -> Option<u64> {
+    let mut length = 0;
+    // As above.
+    let refusal = unsafe { maluwesi_normal_text(text.as_ptr(), text.len(), CARGO, BYTES.0.get().cast(), 524_287, &mut length) };
+    (refusal == 0).then_some(length as u64)
+}
+
+const VERSION: &str = "1.4.0";
+
+fn semver_admits(text: &str) -> Option<u64> {
+    let range = semver::VersionReq::parse(text).ok()?;
+    let version = semver::Version::parse(std::hint::black_box(VERSION)).ok()?;
+    Some(range.matches(&version) as u64)
+}
+
+fn maluwesi_admits(text: &str) -> Option<u64> {
+    let mut admitted = 0;
+    let refusal = unsafe { maluwesi_admit(text.as_ptr(), text.len(), CARGO, VERSION.as_ptr(), VERSION.len(), &mut admitted) };
+    (refusal == 0).then_some(admitted as u64)
+}

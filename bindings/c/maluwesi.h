@@ -1,0 +1,66 @@
+/* Maluwesi: version ranges read, spelled and asked whether they admit a version.
+ *
+ * Link target/staticlib/libmaluwesi.a, which `rt staticlib maluwesi` proves and writes. The functions are those of
+ * crates/maluwesi/src/lib.rt, where each stands under what is proved of it; docs/USERS.md has the rows, the operators' codes and the refusals with
+ * examples.
+ *
+ * What is asked of the caller, since C cannot ask it: no pointer is null, even where its length is 0; a length counts what may be read or written
+ * at its pointer; and what a call writes overlaps nothing else that it is given. All else is tested: any bytes may stand in a text.
+ */
+#ifndef MALUWESI_H
+#define MALUWESI_H
+
+#include <stddef.h>
+#include <stdint.h>
+
+#ifdef __cplusplus
+extern "C" {
+#endif
+
+/* The modes. */
+#define MALUWESI_CARGO 0
+#define MALUWESI_NPM 1
+
+/* What a call returns: 0, or why it refused. A call that refuses leaves 0 where it would leave a count, a length or its yes, and changes nothing
+ * else. */
+#define MALUWESI_OK 0
+#define MALUWESI_TOO_LONG 1          /* the range text is longer than 65,535 bytes */
+#define MALUWESI_NO_READING 2        /* the range text has no reading */
+#define MALUWESI_TOO_LARGE 3         /* a component exceeds 18446744073709551615 */
+#define MALUWESI_OVER 4              /* an expansion would add one to 18446744073709551615 */
+#define MALUWESI_COMPARATORS_SHORT 5 /* the comparator words are too few */
+#define MALUWESI_IDENTIFIERS_SHORT 6 /* the identifier words are too few */
+#define MALUWESI_BYTES_SHORT 7       /* the bytes for the normal text are too few */
+#define MALUWESI_NO_VERSION 8        /* the version text is no version, or longer than 65,535 bytes */
+#define MALUWESI_VERSION_TOO_LARGE 9 /* the version's major, minor or patch exceeds 18446744073709551615 */
+#define MALUWESI_NO_MODE 255         /* the mode is neither of the two */
+
+/* A comparator's row: range, operator, major, minor, patch, number of identifiers. An identifier's row: kind, number or place, 0 or length. */
+#define MALUWESI_COMPARATOR_WORDS 6
+#define MALUWESI_IDENTIFIER_WORDS 3
+
+/* How many ranges, comparator rows and identifier rows the text has. Refuses with 1 to 4. */
+uint64_t maluwesi_count(const uint8_t *text, size_t text_len, uint8_t mode,
+                        size_t *ranges, size_t *comparators, size_t *identifiers);
+
+/* The same, and the rows, from the start of words and of ids; what stands behind them stays. Refuses with 1 to 6. */
+uint64_t maluwesi_read(const uint8_t *text, size_t text_len, uint8_t mode,
+                       uint64_t *words, size_t words_len, uint64_t *ids, size_t ids_len,
+                       size_t *ranges, size_t *comparators, size_t *identifiers);
+
+/* How long the normal text is, if so many bytes were lent for it. Refuses with 1 to 4 and 7. At most 8 * text_len + 7 are needed. */
+uint64_t maluwesi_normal_text_len(const uint8_t *text, size_t text_len, uint8_t mode, size_t lent, size_t *len);
+
+/* The same, and the normal text, from the start of out; what stands behind it stays. */
+uint64_t maluwesi_normal_text(const uint8_t *text, size_t text_len, uint8_t mode,
+                              uint8_t *out, size_t out_len, size_t *len);
+
+/* Whether the range text admits the version: 1 or 0 in admitted. Refuses with 1 to 4, 8 and 9. */
+uint64_t maluwesi_admit(const uint8_t *text, size_t text_len, uint8_t mode,
+                        const uint8_t *version, size_t version_len, uint8_t *admitted);
+
+#ifdef __cplusplus
+}
+#endif
+
+#endif

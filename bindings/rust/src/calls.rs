@@ -1,0 +1,176 @@
+//! The calls of libmaluwesi.a, declared as in bindings/c/maluwesi.h, and a safe function for each.
+//!
+//! The header asks that no pointer is null, that a length counts what may be read or written at its
+//! pointer, and that what is written overlaps nothing else. References and slices bring all of it:
+//! their pointers are never null, even where they are empty; a slice has its own length; and a
+//! `&mut` overlaps nothing.
+
+use crate::{Compat, Refusal};
+
+pub const COMPARATOR_WORDS: usize = 6;
+pub const IDENTIFIER_WORDS: usize = 3;
+
+/// Range, operator, major, minor, patch, number of identifiers.
+pub type ComparatorRow = [u64; COMPARATOR_WORDS];
+/// Kind, number or place, 0 or length.
+pub type IdentifierRow = [u64; IDENTIFIER_WORDS];
+
+#[derive(Default)]
+pub struct Counts {
+    pub ranges: usize,
+    pub comparators: usize,
+    pub identifiers: usize,
+}
+
+extern "C" {
+    fn maluwesi_count(
+        text: *const u8,
+        text_len: usize,
+        mode: u8,
+        ranges: *mut usize,
+        comparators: *mut usize,
+        identifiers: *mut usize,
+    ) -> u64;
+
+    fn maluwesi_read(
+        text: *const u8,
+        text_len: usize,
+        mode: u8,
+        words: *mut u64,
+        words_len: usize,
+        ids: *mut u64,
+        ids_len: usize,
+        ranges: *mut usize,
+        comparators: *mut usize,
+        identifiers: *mut usize,
+    ) -> u64;
+
+    fn maluwesi_normal_text_len(
+        text: *const u8,
+        text_len: usize,
+        mode: u8,
+        lent: usize,
+        len: *mut usize,
+    ) -> u64;
+
+    fn maluwesi_normal_text(
+        text: *const u8,
+        text_len: usize,
+        mode: u8,
+        out: *mut u8,
+        out_len: usize,
+        len: *mut usize,
+    ) -> u64;
+
+    fn maluwesi_admit(
+        text: *const u8,
+        text_len: usize,
+        mode: u8,
+        version: *const u8,
+        version_len: usize,
+        admitted: *mut u8,
+    ) -> u64;
+}
+
+pub fn count(text: &[u8], compat: Compat) -> Result<Counts, Refusal> {
+    let mut counts = Counts::default();
+    // SAFETY: the text is a slice with its length; the counts are three fields of a local.
+    let number = unsafe {
+        maluwesi_count(
+            text.as_ptr(),
+            text.len(),
+            mode(compat),
+            &mut counts.ranges,
+            &mut counts.comparators,
+            &mut counts.identifiers,
+        )
+    };
+    accepted(number).map(|()| counts)
+}
+
+pub fn read(
+    text: &[u8],
+    compat: Compat,
+    comparators: &mut [ComparatorRow],
+    identifiers: &mut [IdentifierRow],
+) -> Result<Counts, Refusal> {
+    let words = comparators.as_flattened_mut();
+    let ids = identifiers.as_flattened_mut();
+    let mut counts = Counts::default();
+    // SAFETY: text, words and ids are slices, each with its length; words and ids are exclusive,
+    // and the counts are three fields of a local.
+    let number = unsafe {
+        maluwesi_read(
+            text.as_ptr(),
+            text.len(),
+            mode(compat),
+            words.as_mut_ptr(),
+            words.len(),
+            ids.as_mut_ptr(),
+            ids.len(),
+            &mut counts.ranges,
+            &mut counts.comparators,
+            &mut counts.identifiers,
+        )
+    };
+    accepted(number).map(|()| counts)
+}
+
+pub fn normal_text_len(text: &[u8], compat: Compat) -> Result<usize, Refusal> {
+    let lent = usize::MAX;
+    let mut len = 0;
+    // SAFETY: the text is a slice with its length; len is a local. The call is told how many bytes
+    // would be lent, and is lent none.
+    let number = unsafe {
+        maluwesi_normal_text_len(text.as_ptr(), text.len(), mode(compat), lent, &mut len)
+    };
+    accepted(number).map(|()| len)
+}
+
+pub fn normal_text(text: &[u8], compat: Compat, out: &mut [u8]) -> Result<usize, Refusal> {
+    let mut len = 0;
+    // SAFETY: text and out are slices, each with its length; out is exclusive, and len is a local.
+    let number = unsafe {
+        maluwesi_normal_text(
+            text.as_ptr(),
+            text.len(),
+            mode(compat),
+            out.as_mut_ptr(),
+            out.len(),
+            &mut len,
+        )
+    };
+    accepted(number).map(|()| len)
+}
+
+pub fn admit(text: &[u8], compat: Compat, version: &[u8]) -> Result<bool, Refusal> {
+    let mut admitted = 0;
+    // SAFETY: text and version are slices, each with its length, and only read, so they may
+    // overlap; the answer is a local.
+    let number = unsafe {
+        maluwesi_admit(
+            text.as_ptr(),
+            text.len(),
+            mode(compat),
+            version.as_ptr(),
+            version.len(),
+            &mut admitted,
+        )
+    };
+    accepted(number).map(|()| admitted == 1)
+}
+
+fn mode(compat: Compat) -> u8 {
+    match compat {
+        Compat::Cargo => 0,
+        Compat::Npm => 1,
+    }
+}
+
+fn accepted(number: u64) -> Result<(), Refusal> {
+    if number == 0 {
+        return Ok(());
+    }
+    let refusal = Refusal::from_number(number);
+    Err(refusal.expect("a call whose mode is 0 or 1 returns 0 to 9"))
+}

@@ -1,0 +1,51 @@
+//! Version ranges, read by a proved reader under the names of the crate semver-parser 0.10.3.
+//!
+//! [`RangeSet::parse`] gives what that crate gives. Where it would panic or wrap, and for a text
+//! longer than 65,535 bytes, a [`Refusal`] comes back. [`normal_text`] and [`admits`] are added.
+//!
+//! ```
+//! use maluwesi::{Compat, Op, RangeSet, Refusal};
+//!
+//! let set = RangeSet::parse(">=1.2, <2 || 1.0.x", Compat::Npm)?;
+//! assert_eq!(set.ranges.len(), 2);
+//! assert_eq!(set.ranges[0].comparator_set[1].op, Op::Lt);
+//!
+//! let wrapped = RangeSet::parse("1.0.0 - 18446744073709551615", Compat::Npm);
+//! assert_eq!(wrapped, Err(Refusal::Over));
+//!
+//! assert_eq!(maluwesi::normal_text("~1.2", Compat::Npm)?, ">=1.2.0 <1.3.0");
+//! assert!(maluwesi::admits("~1.2", Compat::Npm, "1.2.9")?);
+//! # Ok::<(), Refusal>(())
+//! ```
+
+mod calls;
+mod range;
+mod range_set;
+mod refusal;
+
+pub use range::{Comparator, Identifier, Op, Range};
+pub use range_set::{Compat, RangeSet};
+pub use refusal::Refusal;
+
+/// The range text in its plainest spelling, such as `>=1.2.0 <1.3.0 || =2.0.0`.
+///
+/// Read again under either mode, it gives the same comparators, unless it is longer than 65,535
+/// bytes.
+pub fn normal_text(text: &str, compat: Compat) -> Result<String, Refusal> {
+    let text = text.as_bytes();
+    let mut out = vec![0; calls::normal_text_len(text, compat)?];
+    calls::normal_text(text, compat, &mut out)?;
+    Ok(ascii(&out))
+}
+
+/// Whether the version meets every comparator of some range of the range text, by the precedence
+/// of Semantic Versioning 2.0.0.
+pub fn admits(text: &str, compat: Compat, version: &str) -> Result<bool, Refusal> {
+    calls::admit(text.as_bytes(), compat, version.as_bytes())
+}
+
+/// The bytes of a normal text or of an identifier as a string. The grammar has ASCII bytes only,
+/// and an ASCII byte is its own character.
+fn ascii(bytes: &[u8]) -> String {
+    bytes.iter().copied().map(char::from).collect()
+}

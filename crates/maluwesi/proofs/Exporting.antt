@@ -1,0 +1,124 @@
+-- The calls under the mode with a number: what a function that is exported hands back, where the number is a mode and where it is none.
+-- Assumes nothing.
+use Prim.Native.Nat.{ℕ}
+use mathlib.Core.Path.{_≡_, refl, sym, ap, _∙_}
+use mathlib.Core.Bool.{Bool, true, false}
+use mathlib.Core.List.{List}
+use borrow.Author.Tests.{ne-eqb}
+use Rattle.rules.specs.Expansion as E
+use Rattle.rules.specs.Answers.{Answer, accepted, refused, readingOutcome, written, comparatorWordsAfter, identifierWordsAfter, normalTextOutcome, bytesAfter, Outcome, Length}
+use Rattle.rules.specs.Exported.{modeOf, under, Verdict, verdict}
+use Rattle.range.specs.Views.{compatOf}
+use Rattle.range.specs.declared.Compat.{Compat}
+use Rattle.range.specs.declared.Compat.the-variants as Compat
+use Rattle.rangeset.specs.Views.{numberOf, outcomeOf}
+use Rattle.rangeset.specs.declared.Refusal.{Refusal}
+use Rattle.rangeset.specs.declared.Reading.{Reading}
+use Rattle.rangeset.specs.declared.Reading.the-variants as R
+use Rattle.normal_text.specs.Views.{lengthOf}
+use Rattle.normal_text.specs.declared.NormalText.{NormalText}
+use Rattle.normal_text.specs.declared.NormalText.the-variants as T
+use Rattle.admission.specs.Views.{answerOf}
+use Rattle.admission.specs.declared.Admission.{Admission}
+use Rattle.admission.specs.declared.Admission.the-variants as Admissions
+use Rattle.maluwesi.specs.Views.{modeIs, outcome, lengthIs, verdictIs}
+use Rattle.maluwesi.specs.declared.Mode.{Mode}
+use Rattle.maluwesi.specs.declared.Mode.the-variants as Modes
+
+-- ---- the mode
+
+pub mode-cargo : (k : ℕ) → k ≡ 0 → modeIs (Modes.Compat Compat.Cargo) ≡ modeOf k
+mode-cargo k e = rw e refl
+
+pub mode-npm : (k : ℕ) → k ≡ 1 → modeIs (Modes.Compat Compat.Npm) ≡ modeOf k
+mode-npm k e = rw e refl
+
+pub mode-none : (k : ℕ) → (k ≡ 0 → ⊥) → (k ≡ 1 → ⊥) → modeIs Modes.Nothing ≡ modeOf k
+mode-none k e f = rw (ne-eqb k 0 e) (rw (ne-eqb k 1 f) refl)
+
+pub ruleset modes = (mode-cargo, mode-npm, mode-none)
+
+-- ---- the answers, as numbers
+
+pub refused-counts : (r : Reading) (y : Refusal) (n : ℕ) → r ≡ R.Refused y → n ≡ numberOf y → outcome n 0 0 0 ≡ outcomeOf r
+refused-counts r y n q e = rw q (ap (λ n. outcome n 0 0 0) e)
+
+pub refused-length : (r : NormalText) (y : Refusal) (n : ℕ) → r ≡ T.Refused y → n ≡ numberOf y → lengthIs n 0 ≡ lengthOf r
+refused-length r y n q e = rw q (ap (λ n. lengthIs n 0) e)
+
+pub said-yes : (r : Admission) → r ≡ Admissions.Yes → verdictIs 0 1 ≡ verdict (answerOf r)
+unfolding verdict
+said-yes r q = rw q refl
+
+pub said-no : (r : Admission) → r ≡ Admissions.No → verdictIs 0 0 ≡ verdict (answerOf r)
+unfolding verdict
+said-no r q = rw q refl
+
+pub refused-admission : (r : Admission) (y : Refusal) (n : ℕ) → r ≡ Admissions.Refused y → n ≡ numberOf y → verdictIs n 0 ≡ verdict (answerOf r)
+unfolding verdict
+refused-admission r y n q e = rw q (ap (λ n. verdictIs n 0) e)
+
+pub ruleset numbers = (refused-counts, refused-length, said-yes, said-no, refused-admission)
+
+-- ---- a call under a mode
+
+module _ (k : ℕ) (m : Mode) (e : modeIs m ≡ modeOf k) where
+  -- the number is a mode's: what the call hands back
+  module _ (c : Compat) (q : m ≡ Modes.Compat c) where
+    under-mode : {A : Type 0} (f : E.Compat → Answer A) → f (compatOf c) ≡ under k f
+    unfolding under
+    under-mode f = rw (sym (ap modeIs (sym q) ∙ e)) refl
+
+    pub mode-counts : (f : E.Compat → Answer E.Reading) (r : Reading) → outcomeOf r ≡ readingOutcome (f (compatOf c))
+        → (x : Outcome) → x ≡ outcomeOf r → x ≡ readingOutcome (under k f)
+    mode-counts f r h x p = p ∙ h ∙ ap readingOutcome (under-mode f)
+
+    pub mode-words : (f : E.Compat → Answer E.Reading) (w x : List ℕ) → x ≡ comparatorWordsAfter (f (compatOf c)) w → x ≡ comparatorWordsAfter (under k f) w
+    mode-words f w x p = p ∙ ap (λ a. comparatorWordsAfter a w) (under-mode f)
+
+    pub mode-ids : (f : E.Compat → Answer E.Reading) (s i x : List ℕ) → x ≡ identifierWordsAfter s (f (compatOf c)) i → x ≡ identifierWordsAfter s (under k f) i
+    mode-ids f s i x p = p ∙ ap (λ a. identifierWordsAfter s a i) (under-mode f)
+
+    pub mode-length : (f : E.Compat → Answer (List ℕ)) (r : NormalText) → lengthOf r ≡ normalTextOutcome (f (compatOf c))
+        → (x : Length) → x ≡ lengthOf r → x ≡ normalTextOutcome (under k f)
+    mode-length f r h x p = p ∙ h ∙ ap normalTextOutcome (under-mode f)
+
+    pub mode-bytes : (f : E.Compat → Answer (List ℕ)) (o x : List ℕ) → x ≡ bytesAfter (f (compatOf c)) o → x ≡ bytesAfter (under k f) o
+    mode-bytes f o x p = p ∙ ap (λ a. bytesAfter a o) (under-mode f)
+
+    pub mode-verdict : (f : E.Compat → Answer Bool) (r : Admission) → answerOf r ≡ f (compatOf c) → (x : Verdict) → x ≡ verdict (answerOf r) → x ≡ verdict (under k f)
+    mode-verdict f r h x p = p ∙ ap verdict (h ∙ under-mode f)
+
+  -- it is none: zero counts, and nothing that was lent changes
+  module _ (q : m ≡ Modes.Nothing) where
+    under-none : {A : Type 0} (f : E.Compat → Answer A) → under k f ≡ refused 255
+    unfolding under
+    under-none f = rw (sym (ap modeIs (sym q) ∙ e)) refl
+
+    pub none-counts : (f : E.Compat → Answer E.Reading) → outcome 255 0 0 0 ≡ readingOutcome (under k f)
+    unfolding readingOutcome
+    none-counts f = rw (under-none f) refl
+
+    pub none-words : (f : E.Compat → Answer E.Reading) (w : List ℕ) → w ≡ comparatorWordsAfter (under k f) w
+    unfolding comparatorWordsAfter written
+    none-words f w = rw (under-none f) refl
+
+    pub none-ids : (f : E.Compat → Answer E.Reading) (s i : List ℕ) → i ≡ identifierWordsAfter s (under k f) i
+    unfolding identifierWordsAfter written
+    none-ids f s i = rw (under-none f) refl
+
+    pub none-length : (f : E.Compat → Answer (List ℕ)) → lengthIs 255 0 ≡ normalTextOutcome (under k f)
+    unfolding normalTextOutcome
+    none-length f = rw (under-none f) refl
+
+    pub none-bytes : (f : E.Compat → Answer (List ℕ)) (o : List ℕ) → o ≡ bytesAfter (under k f) o
+    unfolding bytesAfter written
+    none-bytes f o = rw (under-none f) refl
+
+    pub none-verdict : (f : E.Compat → Answer Bool) → verdictIs 255 0 ≡ verdict (under k f)
+    unfolding verdict
+    none-verdict f = rw (under-none f) refl
+
+pub ruleset known = (mode-counts, mode-words, mode-ids, mode-length, mode-bytes, mode-verdict)
+
+pub ruleset unknown = (none-counts, none-words, none-ids, none-length, none-bytes, none-verdict)

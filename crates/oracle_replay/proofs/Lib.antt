@@ -1,0 +1,4 @@
+mod Agreeing
+mod Fields
+mod Rows
+mod Files

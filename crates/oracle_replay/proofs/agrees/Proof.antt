@@ -1,0 +1,20 @@
+use Rattle.oracle_replay.proofs.Agreeing.{agreeing}
+use borrow.Author.Needs.{needs}
+use Rattle.oracle_replay.proofs.agrees.Statement.{statement}
+use Rattle.oracle_replay.proofs.agrees.Tie as tie
+
+pub agrees-spec : {M : Type 1} → statement M
+agrees-spec =
+    tie.close
+    (tie.spec
+    (λ c. search (agreeing, needs))
+    (λ c κs. search (agreeing, needs))
+    (λ c. search (agreeing, needs))
+    (λ c. search (agreeing, needs))
+    (λ c. search (agreeing, needs))
+    (λ c. search (agreeing, needs))
+    (λ c κs. search (agreeing, needs))
+    (λ c. search (agreeing, needs))
+    (λ c κs. search (agreeing, needs))
+    (λ c. search (agreeing, needs))
+    (λ c. search (agreeing, needs)))
