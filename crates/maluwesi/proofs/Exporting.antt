@@ -40,8 +40,12 @@ pub ruleset modes = (mode-cargo, mode-npm, mode-none)
 
 -- ---- the answers, as numbers
 
-pub refused-counts : (r : Reading) (y : Refusal) (n : ℕ) → r ≡ R.Refused y → n ≡ numberOf y → outcome n 0 0 0 ≡ outcomeOf r
-refused-counts r y n q e = rw q (ap (λ n. outcome n 0 0 0) e)
+no-counts : (n m a b c : ℕ) → n ≡ m → a ≡ 0 → b ≡ 0 → c ≡ 0 → outcome n a b c ≡ outcome m 0 0 0
+no-counts n m a b c e i j k = rw (e, i, j, k)
+
+pub refused-counts : (r : Reading) (y : Refusal) → r ≡ R.Refused y → (n : ℕ) → n ≡ numberOf y → (a b c : ℕ) → a ≡ 0 → b ≡ 0 → c ≡ 0
+    → outcome n a b c ≡ outcomeOf r
+refused-counts r y q n e a b c i j k = no-counts n (numberOf y) a b c e i j k ∙ ap outcomeOf (sym q)
 
 pub refused-length : (r : NormalText) (y : Refusal) (n : ℕ) → r ≡ T.Refused y → n ≡ numberOf y → lengthIs n 0 ≡ lengthOf r
 refused-length r y n q e = rw q (ap (λ n. lengthIs n 0) e)
@@ -95,9 +99,9 @@ module _ (k : ℕ) (m : Mode) (e : modeIs m ≡ modeOf k) where
     unfolding under
     under-none f = rw (sym (ap modeIs (sym q) ∙ e)) refl
 
-    pub none-counts : (f : E.Compat → Answer E.Reading) → outcome 255 0 0 0 ≡ readingOutcome (under k f)
+    pub none-counts : (f : E.Compat → Answer E.Reading) (a b c : ℕ) → a ≡ 0 → b ≡ 0 → c ≡ 0 → outcome 255 a b c ≡ readingOutcome (under k f)
     unfolding readingOutcome
-    none-counts f = rw (under-none f) refl
+    none-counts f a b c h i j = rw (under-none f) (no-counts 255 255 a b c refl h i j)
 
     pub none-words : (f : E.Compat → Answer E.Reading) (w : List ℕ) → w ≡ comparatorWordsAfter (under k f) w
     unfolding comparatorWordsAfter written

@@ -38,6 +38,19 @@ fn mode_of(number: u8) -> Mode
 
 // ---- the answers, as numbers
 
+// What is answered where the mode's number is none: no refusal of 01 has it.
+const NO_MODE: u64 = 255;
+
+fn put_no_counts(ranges: &mut usize, comparators: &mut usize, identifiers: &mut usize)
+    ensures { λ _. ⌜ now (ranges .exit) ≡ 0 ⌝ }
+    ensures comparators { λ _. ⌜ now (comparators .exit) ≡ 0 ⌝ }
+    ensures identifiers { λ _. ⌜ now (identifiers .exit) ≡ 0 ⌝ }
+{
+    *ranges = 0;
+    *comparators = 0;
+    *identifiers = 0;
+}
+
 fn put_counts(
     r: Reading,
     ranges: &mut usize,
@@ -54,9 +67,7 @@ fn put_counts(
             0
         }
         Reading::Refused(refusal) => {
-            *ranges = 0;
-            *comparators = 0;
-            *identifiers = 0;
+            put_no_counts(ranges, comparators, identifiers);
             refusal.number()
         }
     }
@@ -110,10 +121,8 @@ pub extern "C" fn maluwesi_count(
 {
     let m = mode_of(mode);
     let Mode::Compat(compat) = m else {
-        *ranges = 0;
-        *comparators = 0;
-        *identifiers = 0;
-        return 255;
+        put_no_counts(ranges, comparators, identifiers);
+        return NO_MODE;
     };
     put_counts(count(text, compat), ranges, comparators, identifiers)
 }
@@ -134,10 +143,8 @@ pub extern "C" fn maluwesi_read(
 {
     let m = mode_of(mode);
     let Mode::Compat(compat) = m else {
-        *ranges = 0;
-        *comparators = 0;
-        *identifiers = 0;
-        return 255;
+        put_no_counts(ranges, comparators, identifiers);
+        return NO_MODE;
     };
     let r = read(text, compat, words, ids);
     put_counts(r, ranges, comparators, identifiers)
@@ -157,7 +164,7 @@ pub extern "C" fn maluwesi_normal_text_len(
     let m = mode_of(mode);
     let Mode::Compat(compat) = m else {
         *len = 0;
-        return 255;
+        return NO_MODE;
     };
     put_length(normal_text_len(text, compat, lent), len)
 }
@@ -175,7 +182,7 @@ pub extern "C" fn maluwesi_normal_text(
     let m = mode_of(mode);
     let Mode::Compat(compat) = m else {
         *len = 0;
-        return 255;
+        return NO_MODE;
     };
     let r = normal_text(text, compat, out);
     put_length(r, len)
@@ -190,7 +197,7 @@ pub extern "C" fn maluwesi_admit(text: &[u8], mode: u8, version: &[u8], admitted
     let m = mode_of(mode);
     let Mode::Compat(compat) = m else {
         *admitted = 0;
-        return 255;
+        return NO_MODE;
     };
     put_admitted(admit(text, compat, version), admitted)
 }

@@ -10,6 +10,7 @@ maluwesi-count-spec =
     (λ c κs. search (known, unknown, needs))
     (λ c. search (known, unknown, needs))
     (λ c. search (known, unknown, needs))
+    (λ c κs. search (known, unknown, needs))
     (λ c. search (known, unknown, needs))
     (λ c κs. search (known, unknown, needs))
     (λ c κs. search (known, unknown, needs))

@@ -10,5 +10,6 @@ put-counts-spec =
     (λ c. search (numbers, needs))
     (λ c. search (numbers, needs))
     (λ c κs. search (numbers, needs))
+    (λ c κs. search (numbers, needs))
     (λ c. search (numbers, needs))
     (λ c. search (numbers, needs)))
