@@ -31,7 +31,7 @@ fn acts() -> Vec<Act> {
 
 #[no_mangle]
 #[inline(never)]
-pub extern "C" fn measured(act: fn(&str) -> Option<u64>, text: &str) -> u64 {
+pub fn measured(act: fn(&str) -> Option<u64>, text: &str) -> u64 {
     act(text).unwrap_or(u64::MAX)
 }
 

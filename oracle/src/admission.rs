@@ -28,9 +28,9 @@ pub struct Tally {
     pub differences: Differences,
 }
 
-struct Expected {
-    number: u64,
-    admitted: u8,
+pub struct Expected {
+    pub number: u64,
+    pub admitted: u8,
     by_semver: bool,
 }
 
@@ -72,7 +72,7 @@ fn compare(range: &[u8], mode: Compat, version: &[u8], tally: &mut Tally) {
     }
 }
 
-fn expected(range: &[u8], mode: Compat, version: &[u8]) -> Expected {
+pub fn expected(range: &[u8], mode: Compat, version: &[u8]) -> Expected {
     let refused = |number| Expected { number, admitted: 0, by_semver: false };
     let set = match verdict(range, mode) {
         Verdict::Set(set) => set,

@@ -16,9 +16,10 @@ use Rattle.rules.proofs.Results.{Gives, nothing, gives, gives-then}
 use Rattle.rules.proofs.Left.{Behind, behind-both, behind-left, behind-drop, rest-in, one-behind, number-behind, Took, took, failed}
 use Rattle.lexer.specs.Views.{numberOf}
 use Rattle.lexer.specs.declared.Number.{Number}
-use Rattle.oracle_replay.specs.Views.{readField, fieldOf, Two, readPair, pairOf, Numbers, numbersOf, readHead, headOf}
+use Rattle.oracle_replay.specs.Views.{readField, fieldOf, Two, readPair, pairOf, Four, readQuad, quadOf, Numbers, numbers, numbersOf, readHead, noHead, headOf, room, sound}
 use Rattle.oracle_replay.specs.declared.Field.{Field}
 use Rattle.oracle_replay.specs.declared.Pair.{Pair}
+use Rattle.oracle_replay.specs.declared.Quad.{Quad}
 use Rattle.oracle_replay.specs.declared.Head.{Head}
 
 -- ---- the byte at a place
@@ -146,8 +147,16 @@ module _ (s : List ℕ) (left : ℕ) (h : left < length s) where
   pub last-length : length (last s left) ≡ left
   last-length = ap length last-is ∙ length-drop (length s - left) s ∙ omega arith
 
-  pub last-left : (n : ℕ) → n < left → length (drop (length (last s left) - n) (last s left)) ≡ n
-  last-left n k = length-drop (length (last s left) - n) (last s left) ∙ omega (arith, last-length)
+-- what a reader left is that part
+module _ {A : Type 0} (s : List ℕ) {g : Result A} {a : A} (left : ℕ) (r : Read s g a left) where
+  part-is : g ≡ ok a (last s left)
+  part-is = r .is ∙ ap (ok a) (sym (last-is s left (r .fewer)))
+
+  part-length : length (last s left) ≡ left
+  part-length = last-length s left (r .fewer)
+
+left-length : (s : List ℕ) (n : ℕ) → n < length s → length (drop (length s - n) s) ≡ n
+left-length s n h = length-drop (length s - n) s ∙ omega arith
 
 -- ---- read_pair
 
@@ -173,101 +182,161 @@ module _ (s : List ℕ) (end : ℕ) (a : Field) (p : a ≡ fieldOf s (readField 
   pair-none h = pair-fails (rw (readPair, field-gone s a (field-behind 0x20 s) p h))
 
   module _ (z : a .left ≡ length s → ⊥) (b : Field) (q : b ≡ fieldOf (last s (a .left)) (readField end (last s (a .left)))) where
-    before : Read s (readField 0x20 s) (a .value) (a .left)
-    before = field-given s a (field-behind 0x20 s) p z
-
-    rest-is : readField 0x20 s ≡ ok (a .value) (last s (a .left))
-    rest-is = before .is ∙ ap (ok (a .value)) (sym (last-is s (a .left) (before .fewer)))
-
-    before-length : length (last s (a .left)) ≡ a .left
-    before-length = last-length s (a .left) (before .fewer)
+    field-before : Read s (readField 0x20 s) (a .value) (a .left)
+    field-before = field-given s a (field-behind 0x20 s) p z
 
     pub pair-half : b .left ≡ a .left → record { first = 0; second = 0; left = length s } ≡ pairOf s (readPair end s)
     unfolding readPair _then_
     pair-half h =
-        let f = field-gone (last s (a .left)) b (field-behind end (last s (a .left))) q (h ∙ sym before-length) in
-        pair-fails (rw (readPair, rest-is, f))
+        let f = field-gone (last s (a .left)) b (field-behind end (last s (a .left))) q (h ∙ sym (part-length s (a .left) field-before)) in
+        pair-fails (rw (readPair, part-is s (a .left) field-before, f))
 
     pub pair-read : (b .left ≡ a .left → ⊥) → record { first = a .value; second = b .value; left = b .left } ≡ pairOf s (readPair end s)
     unfolding readPair _then_
     pair-read h =
-        let two = field-given (last s (a .left)) b (field-behind end (last s (a .left))) q (λ e. h (e ∙ before-length)) in
-        let l = two .fewer in
+        let two = field-given (last s (a .left)) b (field-behind end (last s (a .left))) q (λ e. h (e ∙ part-length s (a .left) field-before)) in
         let r : readPair end s ≡ ok (record { first = a .value; second = b .value }) (drop (length (last s (a .left)) - b .left) (last s (a .left))) =
-        rw (readPair, rest-is, two .is) in
-        rw (r, last-left s (a .left) (before .fewer) (b .left) (omega (arith, before-length))) refl
+        rw (readPair, part-is s (a .left) field-before, two .is) in
+        rw (r, left-length (last s (a .left)) (b .left) (two .fewer)) refl
 
     pub pair-within : b .left ≤ length (last s (a .left)) → b .left ≤ length s
-    pair-within h = let f = before .fewer in omega (arith, before-length)
+    pair-within h = let f = field-before .fewer in omega (arith, part-length s (a .left) field-before)
 
 pub ruleset pairs = (pair-none, pair-half, pair-read, pair-within)
 
--- ---- read_head
+-- ---- read_quad
+
+abbrev twoOf : Pair → Two
+twoOf p = record { first = p .first; second = p .second }
 
 module _ (s : List ℕ) where
   pair-gone : {g : Result Two} (f : Pair) → Gives (λ v. Behind 1 s) g → f ≡ pairOf s g → f .left ≡ length s → g ≡ fail
   pair-gone f nothing e h = refl
   pair-gone f (gives k) e h = absurd (omega (arith, behind-left k, ap (λ x. x .left) e))
 
-  pair-given : {g : Result Two} (f : Pair) → Gives (λ v. Behind 1 s) g → f ≡ pairOf s g → (f .left ≡ length s → ⊥)
-      → Read s g (record { first = f .first; second = f .second }) (f .left)
+  pair-given : {g : Result Two} (f : Pair) → Gives (λ v. Behind 1 s) g → f ≡ pairOf s g → (f .left ≡ length s → ⊥) → Read s g (twoOf f) (f .left)
   pair-given f nothing e z = absurd (z (ap (λ x. x .left) e))
   pair-given f (gives {a} k) e z = record { is = rw e (ap (ok a) (behind-drop k)); fewer = omega (arith, behind-left k, ap (λ x. x .left) e) }
 
+pub quad-behind : (end : ℕ) (s : List ℕ) → Gives (λ v. Behind 1 s) (readQuad end s)
+unfolding readQuad
+quad-behind end s = gives-then (pair-behind 0x20 s) λ a t h. gives-then (pair-behind end t) λ b r k. gives (behind-both h k (omega arith))
+
+module _ (s : List ℕ) (end : ℕ) (a : Pair) (p : a ≡ pairOf s (readPair 0x20 s)) where
+  quad-fails : readQuad end s ≡ fail → record { first = 0; second = 0; third = 0; fourth = 0; left = length s } ≡ quadOf s (readQuad end s)
+  quad-fails e = rw e refl
+
+  pub quad-none : a .left ≡ length s → record { first = 0; second = 0; third = 0; fourth = 0; left = length s } ≡ quadOf s (readQuad end s)
+  unfolding readQuad _then_
+  quad-none h = quad-fails (rw (readQuad, pair-gone s a (pair-behind 0x20 s) p h))
+
+  module _ (z : a .left ≡ length s → ⊥) (b : Pair) (q : b ≡ pairOf (last s (a .left)) (readPair end (last s (a .left)))) where
+    pair-before : Read s (readPair 0x20 s) (twoOf a) (a .left)
+    pair-before = pair-given s a (pair-behind 0x20 s) p z
+
+    pub quad-half : b .left ≡ a .left → record { first = 0; second = 0; third = 0; fourth = 0; left = length s } ≡ quadOf s (readQuad end s)
+    unfolding readQuad _then_
+    quad-half h =
+        let f = pair-gone (last s (a .left)) b (pair-behind end (last s (a .left))) q (h ∙ sym (part-length s (a .left) pair-before)) in
+        quad-fails (rw (readQuad, part-is s (a .left) pair-before, f))
+
+    pub quad-read : (b .left ≡ a .left → ⊥)
+        → record { first = a .first; second = a .second; third = b .first; fourth = b .second; left = b .left } ≡ quadOf s (readQuad end s)
+    unfolding readQuad _then_
+    quad-read h =
+        let two = pair-given (last s (a .left)) b (pair-behind end (last s (a .left))) q (λ e. h (e ∙ part-length s (a .left) pair-before)) in
+        let n : Four = record { first = a .first; second = a .second; third = b .first; fourth = b .second } in
+        let r : readQuad end s ≡ ok n (drop (length (last s (a .left)) - b .left) (last s (a .left))) =
+        rw (readQuad, part-is s (a .left) pair-before, two .is) in
+        rw (r, left-length (last s (a .left)) (b .left) (two .fewer)) refl
+
+    pub quad-within : b .left ≤ length (last s (a .left)) → b .left ≤ length s
+    quad-within h = let f = pair-before .fewer in omega (arith, part-length s (a .left) pair-before)
+
+pub ruleset quads = (quad-none, quad-half, quad-read, quad-within)
+
+-- ---- read_head
+
+abbrev fourOf : Quad → Four
+fourOf q = record { first = q .first; second = q .second; third = q .third; fourth = q .fourth }
+
+module _ (s : List ℕ) where
+  quad-gone : {g : Result Four} (f : Quad) → Gives (λ v. Behind 1 s) g → f ≡ quadOf s g → f .left ≡ length s → g ≡ fail
+  quad-gone f nothing e h = refl
+  quad-gone f (gives k) e h = absurd (omega (arith, behind-left k, ap (λ x. x .left) e))
+
+  quad-given : {g : Result Four} (f : Quad) → Gives (λ v. Behind 1 s) g → f ≡ quadOf s g → (f .left ≡ length s → ⊥) → Read s g (fourOf f) (f .left)
+  quad-given f nothing e z = absurd (z (ap (λ x. x .left) e))
+  quad-given f (gives {a} k) e z = record { is = rw e (ap (ok a) (behind-drop k)); fewer = omega (arith, behind-left k, ap (λ x. x .left) e) }
+
 pub head-behind : (s : List ℕ) → Gives (λ v. Behind 1 s) (readHead s)
 unfolding readHead
-head-behind s = gives-then (pair-behind 0x20 s) λ a t h. go (leb (a .first) 1) a t h
-  where
-    go : (x : Bool) (a : Two) (t : List ℕ) → Behind 1 s t
-        → Gives {A = Numbers} (λ v. Behind 1 s)
-        (pick x (readPair 0x0A t then λ b r. ok (record { mode = a .first; size = a .second; refusal = b .first; expected = b .second }) r) fail)
-    go true a t h = gives-then (pair-behind 0x0A t) λ b r k. gives (behind-both h k (omega arith))
-    go false a t h = nothing
+head-behind s = gives-then (quad-behind 0x20 s) λ a t h. gives-then (quad-behind 0x0A t) λ b r k. gives (behind-both h k (omega arith))
 
-module _ (s : List ℕ) (a : Pair) (p : a ≡ pairOf s (readPair 0x20 s)) where
-  head-fails : readHead s ≡ fail → record { mode = 0; size = 0; refusal = 0; expected = 0; left = length s } ≡ headOf s (readHead s)
+module _ (s : List ℕ) (a : Quad) (p : a ≡ quadOf s (readQuad 0x20 s)) where
+  head-fails : readHead s ≡ fail → noHead (length s) ≡ headOf s (readHead s)
   head-fails e = rw e refl
 
-  pub head-none : a .left ≡ length s → record { mode = 0; size = 0; refusal = 0; expected = 0; left = length s } ≡ headOf s (readHead s)
+  pub head-none : a .left ≡ length s → noHead (length s) ≡ headOf s (readHead s)
   unfolding readHead _then_
-  head-none h = head-fails (rw (readHead, pair-gone s a (pair-behind 0x20 s) p h))
+  head-none h = head-fails (rw (readHead, quad-gone s a (quad-behind 0x20 s) p h))
 
-  module _ (z : a .left ≡ length s → ⊥) where
-    numbers : Read s (readPair 0x20 s) (record { first = a .first; second = a .second }) (a .left)
-    numbers = pair-given s a (pair-behind 0x20 s) p z
+  module _ (z : a .left ≡ length s → ⊥) (b : Quad) (q : b ≡ quadOf (last s (a .left)) (readQuad 0x0A (last s (a .left)))) where
+    quad-before : Read s (readQuad 0x20 s) (fourOf a) (a .left)
+    quad-before = quad-given s a (quad-behind 0x20 s) p z
 
-    pub head-mode : 1 < a .first → record { mode = 0; size = 0; refusal = 0; expected = 0; left = length s } ≡ headOf s (readHead s)
+    pub head-half : b .left ≡ a .left → noHead (length s) ≡ headOf s (readHead s)
     unfolding readHead _then_
-    head-mode h = head-fails (rw (readHead, numbers .is, lt-leb (a .first) 1 h))
+    head-half h =
+        let f = quad-gone (last s (a .left)) b (quad-behind 0x0A (last s (a .left))) q (h ∙ sym (part-length s (a .left) quad-before)) in
+        head-fails (rw (readHead, part-is s (a .left) quad-before, f))
 
-    module _ (m : a .first ≤ 1) (b : Pair) (q : b ≡ pairOf (last s (a .left)) (readPair 0x0A (last s (a .left)))) where
-      numbers-is : readPair 0x20 s ≡ ok (record { first = a .first; second = a .second }) (last s (a .left))
-      numbers-is = numbers .is ∙ ap (ok (record { first = a .first; second = a .second })) (sym (last-is s (a .left) (numbers .fewer)))
+    pub head-read : (b .left ≡ a .left → ⊥)
+        → record {
+          call = a .first;
+          mode = a .second;
+          refusal = a .third;
+          admitted = a .fourth;
+          lent = b .first;
+          ids = b .second;
+          size = b .third;
+          other = b .fourth;
+          left = b .left;
+        } ≡ headOf s (readHead s)
+    unfolding readHead _then_
+    head-read h =
+        let two = quad-given (last s (a .left)) b (quad-behind 0x0A (last s (a .left))) q (λ e. h (e ∙ part-length s (a .left) quad-before)) in
+        let r : readHead s ≡ ok (numbers (fourOf a) (fourOf b)) (drop (length (last s (a .left)) - b .left) (last s (a .left))) =
+        rw (readHead, part-is s (a .left) quad-before, two .is) in
+        rw (r, left-length (last s (a .left)) (b .left) (two .fewer)) refl
 
-      numbers-length : length (last s (a .left)) ≡ a .left
-      numbers-length = last-length s (a .left) (numbers .fewer)
+    pub head-within : b .left ≤ length (last s (a .left)) → b .left ≤ length s
+    head-within h = let f = quad-before .fewer in omega (arith, part-length s (a .left) quad-before)
 
-      pub head-half : b .left ≡ a .left → record { mode = 0; size = 0; refusal = 0; expected = 0; left = length s } ≡ headOf s (readHead s)
-      unfolding readHead _then_
-      head-half h =
-          let f = pair-gone (last s (a .left)) b (pair-behind 0x0A (last s (a .left))) q (h ∙ sym numbers-length) in
-          head-fails (rw (readHead, numbers-is, le-leb (a .first) 1 m, f))
+pub ruleset heads = (head-none, head-half, head-read, head-within)
 
-      pub head-read : (b .left ≡ a .left → ⊥)
-          → record { mode = a .first; size = a .second; refusal = b .first; expected = b .second; left = b .left } ≡ headOf s (readHead s)
-      unfolding readHead _then_
-      head-read h =
-          let two = pair-given (last s (a .left)) b (pair-behind 0x0A (last s (a .left))) q (λ e. h (e ∙ numbers-length)) in
-          let l = two .fewer in
-          let n : Numbers = record { mode = a .first; size = a .second; refusal = b .first; expected = b .second } in
-          let r : readHead s ≡ ok n (drop (length (last s (a .left)) - b .left) (last s (a .left))) =
-          rw (readHead, numbers-is, le-leb (a .first) 1 m, two .is) in
-          rw (r, last-left s (a .left) (numbers .fewer) (b .left) (omega (arith, numbers-length))) refl
+-- ---- is_sound
 
-      pub head-within : b .left ≤ length (last s (a .left)) → b .left ≤ length s
-      head-within h = let f = numbers .fewer in omega (arith, numbers-length)
+module _ (h : Head) where
+  pub sound-call : 2 < h .call → false ≡ sound (numbersOf h)
+  unfolding sound
+  sound-call k = rw (lt-leb (h .call) 2 k) refl
 
-pub ruleset heads = (head-none, head-mode, head-half, head-read, head-within)
+  module _ (c : h .call ≤ 2) where
+    pub sound-mode : 1 < h .mode → false ≡ sound (numbersOf h)
+    unfolding sound
+    sound-mode k = rw (le-leb (h .call) 2 c, lt-leb (h .mode) 1 k) refl
+
+    module _ (m : h .mode ≤ 1) where
+      pub sound-lent : room < h .lent → false ≡ sound (numbersOf h)
+      unfolding sound
+      sound-lent k = rw (le-leb (h .call) 2 c, le-leb (h .mode) 1 m, lt-leb (h .lent) room k) refl
+
+      pub sound-ids : h .lent ≤ room → leb (h .ids) room ≡ sound (numbersOf h)
+      unfolding sound
+      sound-ids k = rw (le-leb (h .call) 2 c, le-leb (h .mode) 1 m, le-leb (h .lent) room k) refl
+
+pub ruleset sounds = (sound-call, sound-mode, sound-lent, sound-ids)
 
 -- ---- what stands behind a head
 

@@ -6,17 +6,14 @@ use mathlib.Core.Bool.{Bool, true, false}
 use mathlib.Core.List.{List}
 use native.Mathlib.Omega.{arith}
 use native.Mathlib.Decide.{decLe}
-use borrow.Author.Tests.{eq-eqb, ne-eqb, eqb-true, eqb-false}
+use borrow.Author.Tests.{eqb-true, eqb-false}
 use lib.Dec.{eqb}
 use lib.ListN.{length, take, drop, getD, length-take, length-drop}
 use Rattle.rules.specs.Parse.{fail, ok, _then_, leftOf}
-use Rattle.rules.specs.Answers.{normalTextCall}
+use Rattle.rules.specs.Bytes.{pick}
 use Rattle.rules.proofs.Results.{Gives, nothing, gives, gives-map, gives-then}
 use Rattle.rules.proofs.Left.{Behind, behind-both, rest-in}
-use Rattle.range.specs.Views.{compatOf}
-use Rattle.range.specs.declared.Compat.{Compat}
-use Rattle.range.specs.declared.Compat.the-variants as Compat
-use Rattle.oracle_replay.specs.Views.{lent, sameAnswer, modeOf, numbersOf, readHead, headOf, readLine, Numbers, readTexts, readRow, rowOf}
+use Rattle.oracle_replay.specs.Views.{sound, sameAnswer, numbersOf, readHead, headOf, readLine, Numbers, readTexts, readRow, rowOf}
 use Rattle.oracle_replay.specs.declared.Head.{Head}
 use Rattle.oracle_replay.specs.declared.Row.{Row}
 use Rattle.oracle_replay.proofs.Fields.{byte-none, byte-other, byte-same, last, last-is, head-behind, head-gone, head-given}
@@ -73,16 +70,6 @@ module _ (s : List ℕ) (n left : ℕ) (p : left ≡ leftOf s (readLine n s)) wh
   line-given : (left ≡ length s → ⊥) → Line s n left
   line-given z = line-cases (λ e. absurd (z (p ∙ ap (leftOf s) e))) (λ l. l)
 
--- ---- compat_of
-
-pub mode-cargo : (k : ℕ) → k ≡ 0 → compatOf Compat.Cargo ≡ modeOf k
-mode-cargo k e = rw (eq-eqb k 0 e) refl
-
-pub mode-npm : (k : ℕ) → (k ≡ 0 → ⊥) → compatOf Compat.Npm ≡ modeOf k
-mode-npm k z = rw (ne-eqb k 0 z) refl
-
-pub ruleset modes = (mode-cargo, mode-npm)
-
 -- ---- read_texts
 
 -- the part of s behind a line of n bytes, as a slice's rule states it
@@ -115,36 +102,34 @@ module _ (s : List ℕ) (h : Head) (left : ℕ) (p : left ≡ leftOf s (readLine
         let e : suc (h .size) ≡ h .size + 1 = omega arith in
         text .is ∙ ap (ok (take (h .size) s)) (ap (λ i. drop i s) e ∙ sym (rest-in s (h .size + 1)))
 
-    module _ (end : ℕ) (q : end ≡ leftOf (behind s (h .size)) (readLine (h .expected) (behind s (h .size)))) where
-      pub normal-cut : end ≡ length (behind s (h .size)) → record { agrees = false; left = 0 } ≡ rowOf (readTexts (numbersOf h) s)
+    module _ (end : ℕ) (q : end ≡ leftOf (behind s (h .size)) (readLine (h .other) (behind s (h .size)))) where
+      pub other-cut : end ≡ length (behind s (h .size)) → record { agrees = false; left = 0 } ≡ rowOf (readTexts (numbersOf h) s)
       unfolding readTexts _then_
-      normal-cut e = texts-fail (rw (readTexts, text-is, line-gone (behind s (h .size)) (h .expected) end q e))
+      other-cut e = texts-fail (rw (readTexts, text-is, line-gone (behind s (h .size)) (h .other) end q e))
 
       module _ (y : end ≡ length (behind s (h .size)) → ⊥) where
-        normal : Line (behind s (h .size)) (h .expected) end
-        normal = line-given (behind s (h .size)) (h .expected) end q y
+        other : Line (behind s (h .size)) (h .other) end
+        other = line-given (behind s (h .size)) (h .other) end q y
 
-        pub normal-within : h .expected ≤ length (behind s (h .size))
-        normal-within = let w = normal .within in omega arith
+        pub other-within : h .other ≤ length (behind s (h .size))
+        other-within = let w = other .within in omega arith
 
-        pub normal-length : length (take (h .expected) (behind s (h .size))) ≡ h .expected
-        normal-length = let w = normal .within in rw length-take (omega arith)
+        pub other-length : length (take (h .other) (behind s (h .size))) ≡ h .other
+        other-length = let w = other .within in rw length-take (omega arith)
 
-        pub texts-read : (c : Compat) → compatOf c ≡ modeOf (h .mode) → (x : Bool)
-            → x ≡ sameAnswer (normalTextCall (compatOf c) (take (h .size) s) lent) (h .refusal) (take (h .expected) (behind s (h .size)))
+        pub texts-read : (x : Bool) → x ≡ sameAnswer (numbersOf h) (take (h .size) s) (take (h .other) (behind s (h .size)))
             → record { agrees = x; left = end } ≡ rowOf (readTexts (numbersOf h) s)
         unfolding readTexts _then_
-        texts-read c m x e =
-            let a : Bool = sameAnswer (normalTextCall (modeOf (h .mode)) (take (h .size) s) lent) (h .refusal) (take (h .expected) (behind s (h .size))) in
-            let f : readTexts (numbersOf h) s ≡ ok a (drop (suc (h .expected)) (behind s (h .size))) = rw (readTexts, text-is, normal .is) in
-            let d : end ≡ length (drop (suc (h .expected)) (behind s (h .size))) = rw length-drop (normal .left-is) in
-            let k = e ∙ ap (λ m. sameAnswer (normalTextCall m (take (h .size) s) lent) (h .refusal) (take (h .expected) (behind s (h .size)))) m in
-            same k d ∙ ap rowOf (sym f)
+        texts-read x e =
+            let a : Bool = sameAnswer (numbersOf h) (take (h .size) s) (take (h .other) (behind s (h .size))) in
+            let f : readTexts (numbersOf h) s ≡ ok a (drop (suc (h .other)) (behind s (h .size))) = rw (readTexts, text-is, other .is) in
+            let d : end ≡ length (drop (suc (h .other)) (behind s (h .size))) = rw length-drop (other .left-is) in
+            same e d ∙ ap rowOf (sym f)
           where
             same : {a b : Bool} {l m : ℕ} → a ≡ b → l ≡ m → _≡_ {A = Row} (record { agrees = a; left = l }) (record { agrees = b; left = m })
             same p q = rw (p, q)
 
-pub ruleset texts = (text-cut, text-fits, text-within, text-length, normal-cut, normal-within, normal-length, texts-read)
+pub ruleset texts = (text-cut, text-fits, text-within, text-length, other-cut, other-within, other-length, texts-read)
 
 -- ---- read_row
 
@@ -155,22 +140,34 @@ line-behind n s =
 
 texts-behind : (h : Numbers) (s : List ℕ) → Gives (λ x. Behind 0 s) (readTexts h s)
 unfolding readTexts
-texts-behind h s = gives-then (line-behind (h .size) s) λ w t a. gives-then (line-behind (h .expected) t) λ v r b. gives (behind-both a b (omega arith))
+texts-behind h s = gives-then (line-behind (h .size) s) λ w t a. gives-then (line-behind (h .other) t) λ v r b. gives (behind-both a b (omega arith))
 
 pub row-behind : (s : List ℕ) → Gives (λ x. Behind 1 s) (readRow s)
 unfolding readRow
-row-behind s = gives-then (head-behind s) λ h t a. gives-map (texts-behind h t) λ x r b. behind-both a b (omega arith)
+row-behind s = gives-then (head-behind s) λ h t a. go (sound h) h t a
+  where
+    go : (b : Bool) (h : Numbers) (t : List ℕ) → Behind 1 s t → Gives (λ x. Behind 1 s) (pick b (readTexts h t) fail)
+    go true h t a = gives-map (texts-behind h t) λ x r b. behind-both a b (omega arith)
+    go false h t a = nothing
 
 module _ (s : List ℕ) (h : Head) (p : h ≡ headOf s (readHead s)) where
   pub row-none : h .left ≡ length s → record { agrees = false; left = 0 } ≡ rowOf (readRow s)
   unfolding readRow _then_
   row-none e = rw (readRow, head-gone s h (head-behind s) p e) refl
 
-  pub row-read : (h .left ≡ length s → ⊥) → (r : Row) → r ≡ rowOf (readTexts (numbersOf h) (last s (h .left))) → r ≡ rowOf (readRow s)
-  unfolding readRow _then_
-  row-read z r e =
-      let a = head-given s h (head-behind s) p z in
-      let f : readRow s ≡ readTexts (numbersOf h) (last s (h .left)) = rw (readRow, a .is, last-is s (h .left) (a .fewer)) in
-      e ∙ ap rowOf (sym f)
+  module _ (z : h .left ≡ length s → ⊥) (b : Bool) (q : b ≡ sound (numbersOf h)) where
+    row-is : readRow s ≡ pick b (readTexts (numbersOf h) (last s (h .left))) fail
+    unfolding readRow _then_
+    row-is = let a = head-given s h (head-behind s) p z in rw (readRow, a .is, last-is s (h .left) (a .fewer), q)
 
-pub ruleset rows = (row-none, row-read)
+    pub row-unsound : b ≡ false → record { agrees = false; left = 0 } ≡ rowOf (readRow s)
+    row-unsound e = rw (row-is, e) refl
+
+    module _ (e : b ≡ true) where
+      pub row-sound : sound (numbersOf h) ≡ true
+      row-sound = sym q ∙ e
+
+      pub row-read : (r : Row) → r ≡ rowOf (readTexts (numbersOf h) (last s (h .left))) → r ≡ rowOf (readRow s)
+      row-read r k = k ∙ ap rowOf (sym (row-is ∙ ap (λ b. pick b (readTexts (numbersOf h) (last s (h .left))) fail) e))
+
+pub ruleset rows = (row-none, row-unsound, row-sound, row-read)

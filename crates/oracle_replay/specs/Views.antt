@@ -7,26 +7,34 @@ use lib.Dec.{eqb, leb}
 use lib.ListN.{length, take, drop}
 use Rattle.rules.specs.Bytes.{value, pick}
 use Rattle.rules.specs.Parse.{Result, fail, ok, _then_, oneOf, readNumber}
-use Rattle.rules.specs.Expansion.{Compat, cargo, npm}
-use Rattle.rules.specs.Answers.{Answer, accepted, refused, fits, normalTextCall}
+use Rattle.rules.specs.Expansion.{Compat, cargo, npm, Reading}
+use Rattle.rules.specs.Answers.{Answer, accepted, refused, fits, normalTextCall, readingCall}
+use Rattle.rules.specs.Admission.{admissionCall}
 use Rattle.rules.specs.Walk.{answer}
 use Rattle.rules.specs.Equality.{sameBytes}
 use Rattle.oracle_replay.specs.declared.Field.{Field}
 use Rattle.oracle_replay.specs.declared.Pair.{Pair}
+use Rattle.oracle_replay.specs.declared.Quad.{Quad}
 use Rattle.oracle_replay.specs.declared.Head.{Head}
 use Rattle.oracle_replay.specs.declared.Row.{Row}
 use Rattle.oracle_replay.specs.declared.Counts.{Counts}
 
 -- ---- an answer
 
--- how many bytes are lent for a normal text
-abbrev pub lent : ℕ
-lent = 2048
+-- An accepted call has the number 0, and a refused one its own. Of a normal text: and the bytes that are expected.
+abbrev pub sameText : Answer (List ℕ) → ℕ → List ℕ → Bool
+sameText (accepted w) k v = eqb k 0 && sameBytes w v
+sameText (refused n) k v = eqb k n
 
--- An accepted text has the number 0 and the bytes that are expected; a refused one has the number.
-abbrev pub sameAnswer : Answer (List ℕ) → ℕ → List ℕ → Bool
-sameAnswer (accepted w) k v = eqb k 0 && sameBytes w v
-sameAnswer (refused n) k v = eqb n k
+abbrev pub sameNumber : Answer Reading → ℕ → Bool
+sameNumber (accepted rs) k = eqb k 0
+sameNumber (refused n) k = eqb k n
+
+-- and 1 for yes, 0 for no and for a refusal
+abbrev pub sameVerdict : Answer Bool → ℕ → ℕ → Bool
+sameVerdict (accepted true) k y = eqb k 0 && eqb y 1
+sameVerdict (accepted false) k y = eqb k 0 && eqb y 0
+sameVerdict (refused n) k y = eqb k n && eqb y 0
 
 -- ---- the numbers of a row
 
@@ -42,35 +50,75 @@ pub record Two : Type 0 where
 unfoldable pub readPair : ℕ → List ℕ → Result Two
 readPair end s = readField 0x20 s then λ a t. readField end t then λ b r. ok (record { first = a; second = b }) r
 
-pub record Numbers : Type 0 where
-  pub mode : ℕ
-  pub size : ℕ
-  pub refusal : ℕ
-  pub expected : ℕ
+pub record Four : Type 0 where
+  pub first : ℕ
+  pub second : ℕ
+  pub third : ℕ
+  pub fourth : ℕ
 
--- "MODE LENGTH REFUSAL NORMAL-LENGTH"; another mode than 0 and 1 is none
+-- four numbers with blanks between
+unfoldable pub readQuad : ℕ → List ℕ → Result Four
+readQuad end s =
+    readPair 0x20 s then λ a t. readPair end t then λ b r.
+    ok (record { first = a .first; second = a .second; third = b .first; fourth = b .second }) r
+
+pub record Numbers : Type 0 where
+  pub call : ℕ
+  pub mode : ℕ
+  pub refusal : ℕ
+  pub admitted : ℕ
+  pub lent : ℕ
+  pub ids : ℕ
+  pub size : ℕ
+  pub other : ℕ
+
+abbrev pub numbers : Four → Four → Numbers
+numbers a b =
+    record {
+      call = a .first;
+      mode = a .second;
+      refusal = a .third;
+      admitted = a .fourth;
+      lent = b .first;
+      ids = b .second;
+      size = b .third;
+      other = b .fourth;
+    }
+
+-- "CALL MODE REFUSAL ADMITTED LENT IDS LENGTH OTHER-LENGTH"
 unfoldable pub readHead : List ℕ → Result Numbers
-readHead s =
-    readPair 0x20 s then λ a t.
-    pick (leb (a .first) 1) (readPair 0x0A t then λ b r. ok (record { mode = a .first; size = a .second; refusal = b .first; expected = b .second }) r) fail
+readHead s = readQuad 0x20 s then λ a t. readQuad 0x0A t then λ b r. ok (numbers a b) r
+
+-- how much a row may lend, of each
+abbrev pub room : ℕ
+room = 2048
+
+-- there is such a call and such a mode, and room for what is lent
+unfoldable pub sound : Numbers → Bool
+sound h = leb (h .call) 2 && (leb (h .mode) 1 && (leb (h .lent) room && leb (h .ids) room))
 
 -- ---- a row
 
 abbrev pub modeOf : ℕ → Compat
 modeOf k = pick (eqb k 0) cargo npm
 
+-- whether the call's answer for the text is the one that is expected; v is the other text
+unfoldable pub sameAnswer : Numbers → List ℕ → List ℕ → Bool
+unfolding normalTextCall readingCall admissionCall
+sameAnswer h t v =
+    pick (eqb (h .call) 0) (sameText (normalTextCall (modeOf (h .mode)) t (h .lent)) (h .refusal) v)
+    (pick (eqb (h .call) 1) (sameNumber (readingCall (modeOf (h .mode)) t (h .lent) (h .ids)) (h .refusal))
+    (sameVerdict (admissionCall (modeOf (h .mode)) t v) (h .refusal) (h .admitted)))
+
 -- so many bytes, and a newline
 unfoldable pub readLine : ℕ → List ℕ → Result (List ℕ)
 readLine n s = oneOf (λ c. eqb c 0x0A) (drop n s) then λ c r. ok (take n s) r
 
--- whether the call's answer for the text is the one that is expected
 unfoldable pub readTexts : Numbers → List ℕ → Result Bool
-readTexts h s =
-    readLine (h .size) s then λ text t. readLine (h .expected) t then λ normal r.
-    ok (sameAnswer (normalTextCall (modeOf (h .mode)) text lent) (h .refusal) normal) r
+readTexts h s = readLine (h .size) s then λ text t. readLine (h .other) t then λ other r. ok (sameAnswer h text other) r
 
 unfoldable pub readRow : List ℕ → Result Bool
-readRow s = readHead s then λ h t. readTexts h t
+readRow s = readHead s then λ h t. pick (sound h) (readTexts h t) fail
 
 -- ---- the file
 
@@ -98,13 +146,41 @@ abbrev pub pairOf : List ℕ → Result Two → Pair
 pairOf s fail = record { first = 0; second = 0; left = length s }
 pairOf s (ok a r) = record { first = a .first; second = a .second; left = length r }
 
+abbrev pub quadOf : List ℕ → Result Four → Quad
+quadOf s fail = record { first = 0; second = 0; third = 0; fourth = 0; left = length s }
+quadOf s (ok a r) = record { first = a .first; second = a .second; third = a .third; fourth = a .fourth; left = length r }
+
+abbrev pub noHead : ℕ → Head
+noHead n = record { call = 0; mode = 0; refusal = 0; admitted = 0; lent = 0; ids = 0; size = 0; other = 0; left = n }
+
 abbrev pub headOf : List ℕ → Result Numbers → Head
-headOf s fail = record { mode = 0; size = 0; refusal = 0; expected = 0; left = length s }
-headOf s (ok h r) = record { mode = h .mode; size = h .size; refusal = h .refusal; expected = h .expected; left = length r }
+headOf s fail = noHead (length s)
+headOf s (ok h r) =
+    record {
+      call = h .call;
+      mode = h .mode;
+      refusal = h .refusal;
+      admitted = h .admitted;
+      lent = h .lent;
+      ids = h .ids;
+      size = h .size;
+      other = h .other;
+      left = length r;
+    }
 
 -- the numbers that the code hands on
 abbrev pub numbersOf : Head → Numbers
-numbersOf h = record { mode = h .mode; size = h .size; refusal = h .refusal; expected = h .expected }
+numbersOf h =
+    record {
+      call = h .call;
+      mode = h .mode;
+      refusal = h .refusal;
+      admitted = h .admitted;
+      lent = h .lent;
+      ids = h .ids;
+      size = h .size;
+      other = h .other;
+    }
 
 -- what is no row differs, and nothing is read behind it
 abbrev pub rowOf : Result Bool → Row

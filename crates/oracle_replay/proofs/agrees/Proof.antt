@@ -1,4 +1,4 @@
-use Rattle.oracle_replay.proofs.Agreeing.{agreeing}
+use Rattle.oracle_replay.proofs.Agreeing.{asking}
 use borrow.Author.Needs.{needs}
 use Rattle.oracle_replay.proofs.agrees.Statement.{statement}
 use Rattle.oracle_replay.proofs.agrees.Tie as tie
@@ -7,14 +7,16 @@ pub agrees-spec : {M : Type 1} → statement M
 agrees-spec =
     tie.close
     (tie.spec
-    (λ c. search (agreeing, needs))
-    (λ c κs. search (agreeing, needs))
-    (λ c. search (agreeing, needs))
-    (λ c. search (agreeing, needs))
-    (λ c. search (agreeing, needs))
-    (λ c. search (agreeing, needs))
-    (λ c κs. search (agreeing, needs))
-    (λ c. search (agreeing, needs))
-    (λ c κs. search (agreeing, needs))
-    (λ c. search (agreeing, needs))
-    (λ c. search (agreeing, needs)))
+    (λ c κs. search (asking, needs))
+    (λ c. search (asking, needs))
+    (λ c. search (asking, needs))
+    (λ c κs. search (asking, needs))
+    (λ c. search (asking, needs))
+    (λ c. search (asking, needs))
+    (λ c. search (asking, needs))
+    (λ c. search (asking, needs))
+    (λ c. search (asking, needs))
+    (λ c κs. search (asking, needs))
+    (λ c. search (asking, needs))
+    (λ c κs. search (asking, needs))
+    (λ c. search (asking, needs)))

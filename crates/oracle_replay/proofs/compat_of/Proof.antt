@@ -1,4 +1,4 @@
-use Rattle.oracle_replay.proofs.Rows.{modes}
+use Rattle.oracle_replay.proofs.Agreeing.{modes}
 use borrow.Author.Needs.{needs}
 use Rattle.oracle_replay.proofs.compat_of.Statement.{statement}
 use Rattle.oracle_replay.proofs.compat_of.Tie as tie

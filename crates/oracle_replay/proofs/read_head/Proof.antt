@@ -13,7 +13,6 @@ read-head-spec =
     (λ c. search (heads, needs))
     (λ c. search (heads, needs))
     (λ c. search (heads, needs))
-    (λ c. search (heads, needs))
     (λ c κs. search (heads, needs))
     (λ c. search (heads, needs))
     (λ c. search (heads, needs)))

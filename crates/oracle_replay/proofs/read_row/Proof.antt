@@ -9,9 +9,11 @@ read-row-spec =
     (tie.spec
     (λ c κs. search (rows, needs))
     (λ c. search (rows, needs))
+    (λ c κs. search (rows, needs))
     (λ c. search (rows, needs))
     (λ c. search (rows, needs))
     (λ c. search (rows, needs))
     (λ c. search (rows, needs))
     (λ c κs. search (rows, needs))
+    (λ c. search (rows, needs))
     (λ c. search (rows, needs)))

@@ -15,7 +15,6 @@ read-texts-spec =
     (λ c. search (texts, needs))
     (λ c κs. search (texts, needs))
     (λ c. search (texts, needs))
-    (λ c κs. search (texts, needs))
     (λ c. search (texts, needs))
     (λ c. search (texts, needs))
     (λ c κs. search (texts, needs))
