@@ -35,10 +35,11 @@ pub fn measured(act: fn(&str) -> Option<u64>, text: &str) -> u64 {
     act(text).unwrap_or(u64::MAX)
 }
 
-const ROUNDS: usize = 9;
-const ROUND: Duration = Duration::from_millis(20);
+const SWEEPS: usize = 6;
+const ROUNDS: usize = 4;
+const ROUND: Duration = Duration::from_millis(10);
 
-/// Nanoseconds of one act, over as many as fill a round.
+/// Nanoseconds of one act, over so many.
 fn round(act: fn(&str) -> Option<u64>, text: &str, times: u32) -> f64 {
     let start = Instant::now();
     for _ in 0..times {
@@ -47,39 +48,50 @@ fn round(act: fn(&str) -> Option<u64>, text: &str, times: u32) -> f64 {
     start.elapsed().as_secs_f64() * 1e9 / f64::from(times)
 }
 
+/// How many acts take half a round at least.
 fn times_in_a_round(act: fn(&str) -> Option<u64>, text: &str) -> u32 {
     let mut times = 1;
     loop {
         let nanoseconds = round(act, text, times) * f64::from(times);
-        if nanoseconds * 4.0 > ROUND.as_nanos() as f64 {
+        if nanoseconds * 2.0 > ROUND.as_nanos() as f64 {
             return times;
         }
         times *= 2;
     }
 }
 
-/// The best of several rounds for each peer that reads the text; the peers take turns.
+/// The best of several rounds for each peer; the peers take turns. A peer that does not read the text has none.
 fn best(peers: &[Peer], text: &str) -> Vec<Option<f64>> {
     let times: Vec<Option<u32>> = peers.iter().map(|peer| (peer.act)(text).map(|_| times_in_a_round(peer.act, text))).collect();
     let mut best = vec![None; peers.len()];
     for _ in 0..ROUNDS {
         for ((peer, times), best) in peers.iter().zip(&times).zip(&mut best) {
-            if let Some(times) = times {
-                let took = round(peer.act, text, *times);
-                *best = Some(best.map_or(took, |b: f64| b.min(took)));
-            }
+            *best = least(*best, times.map(|times| round(peer.act, text, times)));
         }
     }
     best
 }
 
+fn least(a: Option<f64>, b: Option<f64>) -> Option<f64> {
+    a.into_iter().chain(b).reduce(f64::min)
+}
+
+/// The machine may run at another speed for a while, so all is measured in several sweeps, and the best is kept.
 fn print_times() {
-    for act in acts() {
-        for Text { name, text } in &act.texts {
-            for (peer, best) in act.peers.iter().zip(best(act.peers, text)) {
-                if let Some(best) = best {
-                    println!("{}\t{}\t{}\t{}\t{:.1}", act.name, name, text.len(), peer.name, best);
-                }
+    let acts = acts();
+    let each: Vec<(&Act, &Text)> = acts.iter().flat_map(|act| act.texts.iter().map(move |text| (act, text))).collect();
+    let mut found: Vec<Vec<Option<f64>>> = each.iter().map(|(act, _)| vec![None; act.peers.len()]).collect();
+    for _ in 0..SWEEPS {
+        for ((act, text), found) in each.iter().zip(&mut found) {
+            for (found, took) in found.iter_mut().zip(best(act.peers, &text.text)) {
+                *found = least(*found, took);
+            }
+        }
+    }
+    for ((act, text), found) in each.iter().zip(&found) {
+        for (peer, best) in act.peers.iter().zip(found) {
+            if let Some(best) = best {
+                println!("{}\t{}\t{}\t{}\t{:.1}", act.name, text.name, text.text.len(), peer.name, best);
             }
         }
     }
