@@ -62,7 +62,8 @@ fn times_in_a_round(act: fn(&str) -> Option<u64>, text: &str) -> u32 {
 
 /// The best of several rounds for each peer; the peers take turns. A peer that does not read the text has none.
 fn best(peers: &[Peer], text: &str) -> Vec<Option<f64>> {
-    let times: Vec<Option<u32>> = peers.iter().map(|peer| (peer.act)(text).map(|_| times_in_a_round(peer.act, text))).collect();
+    let times: Vec<Option<u32>> =
+        peers.iter().map(|peer| (peer.act)(text).map(|_| times_in_a_round(peer.act, text))).collect();
     let mut best = vec![None; peers.len()];
     for _ in 0..ROUNDS {
         for ((peer, times), best) in peers.iter().zip(&times).zip(&mut best) {
@@ -119,7 +120,10 @@ fn do_once(act: &str, text: &str, peer: &str) {
 }
 
 fn print_table(times: &str, counts: &str) {
-    let acts: Vec<_> = acts().into_iter().map(|act| (act.name, act.texts.into_iter().map(|t| (t.name, t.text.len())).collect())).collect();
+    let acts: Vec<_> = acts()
+        .into_iter()
+        .map(|act| (act.name, act.texts.into_iter().map(|t| (t.name, t.text.len())).collect()))
+        .collect();
     table::print(&acts, times, counts);
 }
 

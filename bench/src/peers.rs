@@ -3,7 +3,7 @@
 
 use std::cell::UnsafeCell;
 
-pub const CARGO: u8 = 0;
+const CARGO: u8 = 0;
 
 extern "C" {
     fn maluwesi_read(
@@ -18,17 +18,34 @@ extern "C" {
         comparators: &mut usize,
         identifiers: &mut usize,
     ) -> u64;
-    fn maluwesi_normal_text(text: *const u8, text_len: usize, mode: u8, out: *mut u8, out_len: usize, len: &mut usize) -> u64;
-    fn maluwesi_admit(text: *const u8, text_len: usize, mode: u8, version: *const u8, version_len: usize, admitted: &mut u8) -> u64;
+    fn maluwesi_normal_text(
+        text: *const u8,
+        text_len: usize,
+        mode: u8,
+        out: *mut u8,
+        out_len: usize,
+        len: &mut usize,
+    ) -> u64;
+    fn maluwesi_admit(
+        text: *const u8,
+        text_len: usize,
+        mode: u8,
+        version: *const u8,
+        version_len: usize,
+        admitted: &mut u8,
+    ) -> u64;
 }
 
 /// The memory that is lent: enough for every text of 65,535 bytes.
 struct Lent<T, const N: usize>(UnsafeCell<[T; N]>);
 // One thread runs the acts.
 unsafe impl<T, const N: usize> Sync for Lent<T, N> {}
-static WORDS: Lent<u64, 393_222> = Lent(UnsafeCell::new([0; 393_222]));
-static IDS: Lent<u64, 98_304> = Lent(UnsafeCell::new([0; 98_304]));
-static BYTES: Lent<u8, 524_287> = Lent(UnsafeCell::new([0; 524_287]));
+const WORDS_LEN: usize = 6 * 65_536;
+const IDS_LEN: usize = 3 * 32_765;
+const BYTES_LEN: usize = 8 * 65_535 + 7;
+static WORDS: Lent<u64, WORDS_LEN> = Lent(UnsafeCell::new([0; WORDS_LEN]));
+static IDS: Lent<u64, IDS_LEN> = Lent(UnsafeCell::new([0; IDS_LEN]));
+static BYTES: Lent<u8, BYTES_LEN> = Lent(UnsafeCell::new([0; BYTES_LEN]));
 
 pub struct Peer {
     pub name: &'static str,
@@ -41,15 +58,11 @@ pub const READERS: [Peer; 3] = [
     Peer { name: "maluwesi", act: maluwesi_reads },
 ];
 
-pub const SPELLERS: [Peer; 2] = [
-    Peer { name: "semver", act: semver_spells },
-    Peer { name: "maluwesi", act: maluwesi_spells },
-];
+pub const SPELLERS: [Peer; 2] =
+    [Peer { name: "semver", act: semver_spells }, Peer { name: "maluwesi", act: maluwesi_spells }];
 
-pub const ADMITTERS: [Peer; 2] = [
-    Peer { name: "semver", act: semver_admits },
-    Peer { name: "maluwesi", act: maluwesi_admits },
-];
+pub const ADMITTERS: [Peer; 2] =
+    [Peer { name: "semver", act: semver_admits }, Peer { name: "maluwesi", act: maluwesi_admits }];
 
 fn crate_reads(text: &str) -> Option<u64> {
     let set = released::RangeSet::parse(text, released::Compat::Cargo).ok()?;
@@ -63,16 +76,16 @@ fn semver_reads(text: &str) -> Option<u64> {
 
 fn maluwesi_reads(text: &str) -> Option<u64> {
     let (mut ranges, mut comparators, mut identifiers) = (0, 0, 0);
-    // The slices are two statics' own, which nothing else uses while the call runs.
+    // SAFETY: the text is a slice with its length; the words are two statics', which nothing else uses while the call runs; the counts are locals.
     let refusal = unsafe {
         maluwesi_read(
             text.as_ptr(),
             text.len(),
             CARGO,
             WORDS.0.get().cast(),
-            393_222,
+            WORDS_LEN,
             IDS.0.get().cast(),
-            98_304,
+            IDS_LEN,
             &mut ranges,
             &mut comparators,
             &mut identifiers,
@@ -88,8 +101,9 @@ fn semver_spells(text: &str) -> Option<u64> {
 
 fn maluwesi_spells(text: &str) -> Option<u64> {
     let mut length = 0;
-    // As above.
-    let refusal = unsafe { maluwesi_normal_text(text.as_ptr(), text.len(), CARGO, BYTES.0.get().cast(), 524_287, &mut length) };
+    // SAFETY: the text is a slice with its length; the bytes are a static's, which nothing else uses while the call runs; the length is a local.
+    let refusal =
+        unsafe { maluwesi_normal_text(text.as_ptr(), text.len(), CARGO, BYTES.0.get().cast(), BYTES_LEN, &mut length) };
     (refusal == 0).then_some(length as u64)
 }
 
@@ -103,6 +117,8 @@ fn semver_admits(text: &str) -> Option<u64> {
 
 fn maluwesi_admits(text: &str) -> Option<u64> {
     let mut admitted = 0;
-    let refusal = unsafe { maluwesi_admit(text.as_ptr(), text.len(), CARGO, VERSION.as_ptr(), VERSION.len(), &mut admitted) };
+    // SAFETY: both texts are slices with their lengths; the answer is a local.
+    let refusal =
+        unsafe { maluwesi_admit(text.as_ptr(), text.len(), CARGO, VERSION.as_ptr(), VERSION.len(), &mut admitted) };
     (refusal == 0).then_some(admitted as u64)
 }
