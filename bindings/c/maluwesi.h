@@ -1,7 +1,7 @@
 /* Maluwesi: version ranges read, spelled and asked whether they admit a version.
  *
  * Link target/staticlib/libmaluwesi.a, which `rt staticlib maluwesi` proves and writes. The functions are those of
- * crates/maluwesi/src/lib.rt, where each stands under what is proved of it; docs/USERS.md has the rows, the operators' codes and the refusals with
+ * crates/maluwesi/src/lib.rt, where each stands with what is proved of it; docs/USERS.md has the rows, the operators' codes and the refusals with
  * examples.
  *
  * What is asked of the caller, since C cannot ask it: no pointer is null, even where its length is 0; a length counts what may be read or written
