@@ -20,23 +20,20 @@ use std::process::ExitCode;
 use std::sync::atomic::{AtomicUsize, Ordering};
 use std::sync::Mutex;
 use std::time::Instant;
-use std::{env, thread};
+use std::{env, path::Path, thread};
 use texts::Job;
 
 const THREADS: usize = 2;
-const USAGE: &str = "usage: oracle compare SEED | oracle sample SEED";
+const USAGE: &str = "usage: oracle compare SEED | oracle sample SEED FOLDER";
 
 fn main() -> ExitCode {
     let arguments: Vec<_> = env::args().skip(1).collect();
-    let [task, seed] = &arguments[..] else {
-        panic!("{USAGE}");
-    };
-    let seed = seed.parse().expect(USAGE);
+    let arguments: Vec<_> = arguments.iter().map(String::as_str).collect();
     reference::silence_panics();
-    match task.as_str() {
-        "compare" => compare_all(seed),
-        "sample" => {
-            sample::print(seed);
+    match arguments[..] {
+        ["compare", seed] => compare_all(seed.parse().expect(USAGE)),
+        ["sample", seed, folder] => {
+            sample::write(seed.parse().expect(USAGE), Path::new(folder)).expect("the files cannot be written");
             ExitCode::SUCCESS
         }
         _ => panic!("{USAGE}"),
