@@ -8,18 +8,18 @@ use mathlib.Core.Bool.{Bool, true, false}
 use mathlib.Core.List.{List}
 use lib.Dec.{eqb}
 use lib.ListN.{length}
-use borrow.Author.Tests.{le-leb, eqb-true}
+use borrow.Author.Tests.{eqb-true}
 use Rattle.rules.specs.Lists.{each}
 use Rattle.rules.specs.Bytes.{pick}
 use Rattle.rules.specs.Syntax.{Range}
-use Rattle.rules.specs.Grammar.{ReadsText}
 use Rattle.rules.specs.Parse as P
 use Rattle.rules.specs.Parse.{Result, readText}
-use Rattle.rules.specs.Expansion.{Reading, expand}
+use Rattle.rules.specs.Expansion.{Reading}
 use Rattle.rules.specs.Rows.{placelessReading}
-use Rattle.rules.specs.Answers.{Answer, accepted, refused, unless, mapAnswer, longest, rangeFits, readingFits, derived, derive, checked, reading}
+use Rattle.rules.specs.Answers.{Answer, accepted, refused, longest, reading}
 use Rattle.rules.proofs.Sound.{sound}
 use Rattle.rules.proofs.Complete.{complete}
+use Rattle.rules.proofs.Accepted.{Underivable, Decided, long, underivable, large, raised, accepts, decided}
 use Rattle.reference.specs.Pest.{ParseResult}
 use Rattle.reference.specs.Rust.{OrPanic, gives, panics}
 use Rattle.reference.specs.Range.{Compat}
@@ -27,7 +27,6 @@ use Rattle.reference.specs.RangeSet.{Returned, Ok, Err, panicked, endles
 use Rattle.reference.specs.Seen.{mode, seen}
 use Rattle.reference.specs.Utf8.{utf8}
 use Rattle.reference.proofs.Meets.{Meets}
-use Rattle.reference.proofs.Partials.{given}
 use Rattle.reference.proofs.Near.{text-as}
 use Rattle.reference.proofs.Sets.{setSaid, IsSet, isSet, set-meets}
 use Rattle.reference.proofs.Ascii.{ascii, text-ascii, utf8-ascii, utf8-other}
@@ -47,46 +46,25 @@ parse-text : (m : Compat) (t : List ℕ) → parse m t ≡ answerTo m (readText 
 unfolding parse
 parse-text m t = met m (set-meets t) ∙ ap (answerTo m) (sym (text-as t))
 
--- ---- what 01 answers to a text that is not too long, where its reader answers so
+-- ---- it is 01's answer
 
--- its ranges, by the tests of 3 and of 4
-abbrev tested : Compat → List Range → Bool → Bool → Answer Reading
-tested m rs a b = mapAnswer (expand (mode m)) (unless 4 (λ _. b) (pick a (accepted rs) (refused 3)))
-
-unfoldable readingOf : Compat → Result (List Range) → Answer Reading
-readingOf m P.fail = refused 2
-readingOf m (P.ok rs r) = tested m rs (each rangeFits rs) (readingFits (expand (mode m) rs))
-
-reading-of : (m : Compat) (t : List ℕ) → length t ≤ longest → reading (mode m) t ≡ readingOf m (readText t)
-unfolding reading checked derive derived readingOf
-reading-of m t h =
-    ap (λ b. mapAnswer (expand (mode m)) (unless 4 (λ rs. readingFits (expand (mode m) rs)) (unless 3 (each rangeFits) (derive (pick b (accepted t) (refused 1))))))
-    (le-leb (length t) longest h) ∙ go (readText t)
+unread : (t : List ℕ) → Underivable t → readText t ≡ P.fail
+unread t h = go (readText t) refl
   where
-    ranges : (rs : List Range) (a : Bool) → mapAnswer (expand (mode m)) (unless 4 (λ rs. readingFits (expand (mode m) rs)) (pick a (accepted rs) (refused 3)))
-        ≡ tested m rs a (readingFits (expand (mode m) rs))
-    ranges rs true = refl
-    ranges rs false = refl
-
-    go : (g : Result (List Range)) → mapAnswer (expand (mode m)) (unless 4 (λ rs. readingFits (expand (mode m) rs)) (unless 3 (each rangeFits) (derived g))) ≡ readingOf m g
-    go P.fail = refl
-    go (P.ok rs r) = ranges rs (each rangeFits rs)
-
--- ---- they are the same
-
-tested-seen : (m : Compat) (rs : List Range) (a b : Bool) → returned (given a (given b (gives (placelessReading (expand (mode m) rs))))) ≡ seen (tested m rs a b)
-unfolding returned seen
-tested-seen m rs true true = refl
-tested-seen m rs true false = refl
-tested-seen m rs false b = refl
-
-answer-seen : (m : Compat) (g : Result (List Range)) → answerTo m g ≡ seen (readingOf m g)
-unfolding answerTo readingOf setSaid seen
-answer-seen m P.fail = refl
-answer-seen m (P.ok rs r) = tested-seen m rs (each rangeFits rs) (readingFits (expand (mode m) rs))
+    go : (g : Result (List Range)) → readText t ≡ g → readText t ≡ P.fail
+    go P.fail e = e
+    go (P.ok rs r) e = absurd (h rs (sound t rs r e))
 
 pub parse-reading : (m : Compat) (t : List ℕ) → length t ≤ longest → parse m t ≡ seen (reading (mode m) t)
-parse-reading m t h = parse-text m t ∙ answer-seen m (readText t) ∙ ap seen (sym (reading-of m t h))
+unfolding answerTo setSaid returned seen
+parse-reading m t h = parse-text m t ∙ go (decided (mode m) t)
+  where
+    go : {a : Answer Reading} → Decided (mode m) t a → answerTo m (readText t) ≡ seen a
+    go (long l) = absurd (omega arith)
+    go (underivable l k) = ap (answerTo m) (unread t k)
+    go (large l k e) = rw (complete k, e) refl
+    go (raised l k e f) = rw (complete k, e, f) refl
+    go (accepts l k e f) = rw (complete k, e, f) refl
 
 -- ---- each of its answers
 
@@ -108,16 +86,13 @@ seen-err (refused n) e = go (eqb n 2) refl e
     go true i e = ap refused (eqb-true n 2 i)
     go false i e = let z : _≡_ {A = ℕ} 0 1 = cc in absurd (omega arith)
 
-tested-panicked : (m : Compat) (rs : List Range) (a b : Bool) → seen (tested m rs a b) ≡ panicked → (tested m rs a b ≡ refused 3) ⊎ (tested m rs a b ≡ refused 4)
+seen-panicked : (m : Compat) (t : List ℕ) → length t ≤ longest → {a : Answer Reading} → Decided (mode m) t a → seen a ≡ panicked → (a ≡ refused 3) ⊎ (a ≡ refused 4)
 unfolding seen
-tested-panicked m rs true true e = let z : _≡_ {A = ℕ} 0 1 = cc in absurd (omega arith)
-tested-panicked m rs true false e = inr refl
-tested-panicked m rs false b e = inl refl
-
-seen-panicked : (m : Compat) (g : Result (List Range)) → seen (readingOf m g) ≡ panicked → (readingOf m g ≡ refused 3) ⊎ (readingOf m g ≡ refused 4)
-unfolding seen readingOf
-seen-panicked m P.fail e = let z : _≡_ {A = ℕ} 0 1 = cc in absurd (omega arith)
-seen-panicked m (P.ok rs r) e = tested-panicked m rs (each rangeFits rs) (readingFits (expand (mode m) rs)) e
+seen-panicked m t h (long l) e = absurd (omega arith)
+seen-panicked m t h (underivable l k) e = let z : _≡_ {A = ℕ} 0 1 = cc in absurd (omega arith)
+seen-panicked m t h (large l k i) e = inl refl
+seen-panicked m t h (raised l k i j) e = inr refl
+seen-panicked m t h (accepts l k i j) e = let z : _≡_ {A = ℕ} 0 1 = cc in absurd (omega arith)
 
 module _ (m : Compat) (t : List ℕ) (h : length t ≤ longest) where
   pub ok-accepted : (qs : Reading) → (parse m t ≡ Ok qs) ↔ ((rs : Reading) × (reading (mode m) t ≡ accepted rs) × (placelessReading rs ≡ qs))
@@ -131,7 +106,7 @@ module _ (m : Compat) (t : List ℕ) (h : length t ≤ longest) where
   pub panicked-refused : (parse m t ≡ panicked) ↔ ((reading (mode m) t ≡ refused 3) ⊎ (reading (mode m) t ≡ refused 4))
   unfolding seen
   panicked-refused = (
-    λ e. rw (reading-of m t h) (seen-panicked m (readText t) (sym (answer-seen m (readText t)) ∙ sym (parse-text m t) ∙ e)),
+    λ e. seen-panicked m t h (decided (mode m) t) (sym (parse-reading m t h) ∙ e),
     λ x. elim x [ inl y ↦ parse-reading m t h ∙ ap seen y | inr y ↦ parse-reading m t h ∙ ap seen y ],
   )
 
@@ -155,14 +130,10 @@ unfolding returned
 returned-no-err (gives rs) e = let z : _≡_ {A = ℕ} 0 1 = cc in omega arith
 returned-no-err panics e = let z : _≡_ {A = ℕ} 0 1 = cc in omega arith
 
-pub err-grammar : (m : Compat) (t : List ℕ) → (parse m t ≡ Err) ↔ ((rs : List Range) → ReadsText t rs → ⊥)
+pub err-grammar : (m : Compat) (t : List ℕ) → (parse m t ≡ Err) ↔ Underivable t
 unfolding answerTo
 err-grammar m t =
-    (λ e rs k. returned-no-err (setSaid m rs) (sym (ap (answerTo m) (complete k)) ∙ sym (parse-text m t) ∙ e), λ h. parse-text m t ∙ go (readText t) refl h)
-  where
-    go : (g : Result (List Range)) → readText t ≡ g → ((rs : List Range) → ReadsText t rs → ⊥) → answerTo m g ≡ Err
-    go P.fail e h = refl
-    go (P.ok rs r) e h = absurd (h rs (sound t rs r e))
+    (λ e rs k. returned-no-err (setSaid m rs) (sym (ap (answerTo m) (complete k)) ∙ sym (parse-text m t) ∙ e), λ h. parse-text m t ∙ ap (answerTo m) (unread t h))
 
 -- ---- texts of characters
 
