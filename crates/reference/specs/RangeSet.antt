@@ -35,6 +35,7 @@ returned (gives ranges) = Ok ranges
 returned panics = panicked
 
 -- 28: `Ok(mut parsed) => match parsed.next() {`
+-- 49: `fn from_pair_iterator(`
 -- 54: `if parsed_range_set.as_rule() != Rule::range_set {`
 unfoldable pub from-pair-iterator : Compat → Pairs → Returned
 from-pair-iterator m end = Err
