@@ -1,15 +1,17 @@
 //! Compares Maluwesi with the crate semver-parser 0.10.3, and its admissions with the crate semver.
-//! Run by oracle/run and oracle/sample.
+//! Run by oracle/run, oracle/sample and oracle/tables.
 
 mod admission;
 mod answer;
 mod calls;
 mod compare;
 mod partials;
+mod pest_calls;
 mod random;
 mod reference;
 mod report;
 mod sample;
+mod tables;
 mod texts;
 
 use random::Random;
@@ -24,7 +26,7 @@ use std::{env, path::Path, thread};
 use texts::Job;
 
 const THREADS: usize = 2;
-const USAGE: &str = "usage: oracle compare SEED | oracle sample SEED FOLDER";
+const USAGE: &str = "usage: oracle compare SEED | oracle sample SEED FOLDER | oracle tables SEED FOLDER";
 
 fn main() -> ExitCode {
     let arguments: Vec<_> = env::args().skip(1).collect();
@@ -34,6 +36,10 @@ fn main() -> ExitCode {
         ["compare", seed] => compare_all(seed.parse().expect(USAGE)),
         ["sample", seed, folder] => {
             sample::write(seed.parse().expect(USAGE), Path::new(folder)).expect("the files cannot be written");
+            ExitCode::SUCCESS
+        }
+        ["tables", seed, folder] => {
+            tables::write(seed.parse().expect(USAGE), folder);
             ExitCode::SUCCESS
         }
         _ => panic!("{USAGE}"),

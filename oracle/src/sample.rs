@@ -109,7 +109,7 @@ fn replace(file: &Path, rows: &str) -> io::Result<()> {
 
 // ---- texts
 
-fn chosen_texts() -> Vec<String> {
+pub fn chosen_texts() -> Vec<String> {
     let mut texts: Vec<_> = OTHERS.iter().map(|text| text.to_string()).collect();
     for partial in PARTIALS.iter().chain(&LARGE_PARTIALS) {
         texts.extend(OPERATORS.map(|operator| format!("{operator}{partial}")));
@@ -121,7 +121,7 @@ fn chosen_texts() -> Vec<String> {
 }
 
 /// A text of the grammar, or a damaged one.
-fn random_text(random: &mut Random) -> String {
+pub fn random_text(random: &mut Random) -> String {
     let text = range_set(random, Numbers::Any);
     match random.one_in(2) {
         true => text,
