@@ -16,6 +16,7 @@ use Rattle.rules.specs.Grammar as G
 use Rattle.rules.specs.Grammar.{OneOf, Run, Literal, Many, Spaces, Spaces₁, ReadsNumber, ReadsComponent, ReadsIdentifier, ReadsDotIdentifier, ReadsQualifier, ReadsPartial, ReadsPrefix, ReadsItem, ReadsNext, ReadsRange, Separator, ReadsFurther, ReadsText}
 use Rattle.rules.proofs.Follows.{both, either}
 use Rattle.reference.specs.Utf8.{encode, utf8}
+use Rattle.reference.proofs.Lexed.{none-and}
 use Rattle.reference.proofs.Ranges.{each-append}
 
 abbrev pub ascii : ℕ → Bool
@@ -163,10 +164,6 @@ pub utf8-ascii : (s : List ℕ) → Ascii s → utf8 s ≡ s
 unfolding utf8
 utf8-ascii [] h = refl
 utf8-ascii (c ∷ s) h = let x = both (ascii c) (each ascii s) h in rw (encode-ascii c (x .0)) (ap (c ∷_) (utf8-ascii s (x .1)))
-
-none-and : (a : Bool) → (a && false) ≡ false
-none-and true = refl
-none-and false = refl
 
 pub utf8-other : (s : List ℕ) → each ascii s ≡ false → each ascii (utf8 s) ≡ false
 unfolding utf8

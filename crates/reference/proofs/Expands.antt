@@ -15,7 +15,7 @@ use Rattle.rules.specs.Answers.{fits, partialFits, comparatorFits}
 use Rattle.reference.specs.Rust.{OrPanic, gives, panics, _and_, add-one}
 use Rattle.reference.specs.Range.{Compat, Cargo, Npm, Partial, kind, as-comparator, inc-major, inc-minor, inc-patch, zero-missing, zero-minor, zero-patch, no-pre, is-zero, major-zero, minor-zero, caret-zero, caret-major, caret-other, handle-caret-range, from-full, from-partial, from-eq, from-op, from-tilde, hyphen-left, hyphen-wild, hyphen-right}
 use Rattle.reference.specs.Seen.{mode}
-use Rattle.reference.proofs.Partials.{viewOf, given}
+use Rattle.reference.proofs.Partials.{viewOf, given, fits-one}
 
 -- the comparators, without places, if they fit
 unfoldable pub said : List Comparator → OrPanic (List Comparator)
@@ -35,40 +35,36 @@ add-and n f g = go (fits (suc n))
     go true = refl
     go false = refl
 
-ends₁ : {A : Type 0} (x : Bool) (l : OrPanic A) → given x l ≡ given (x && true) l
-ends₁ true l = refl
-ends₁ false l = refl
-
-ends₂ : {A : Type 0} (x : Bool) (l : OrPanic A) → given x l ≡ given ((x && true) && true) l
-ends₂ true l = refl
-ends₂ false l = refl
+fits-last : {A : Type 0} (x : Bool) (l : OrPanic A) → given x l ≡ given ((x && true) && true) l
+fits-last true l = refl
+fits-last false l = refl
 
 pub expands-tilde : (p : S.Partial) → partialFits p ≡ true → from-tilde (kind (viewOf p)) (viewOf p) ≡ said (comparators (expandTilde p))
 unfolding said partialFits comparatorFits comparators asRead raised expandTilde from-tilde as-comparator inc-major inc-minor zero-missing zero-patch no-pre placelessComparator _and_
 expands-tilde xRangeOnly h = refl
-expands-tilde (majorOnly a) h = let x = fits-each (fits a) true true h in add-and a _ _ ∙ rw (x .0) (ends₂ (fits (suc a)) _)
-expands-tilde (majorMinor a b) h = let x = fits-each (fits a) (fits b) true h in add-and b _ _ ∙ rw (x .0, x .1) (ends₂ (fits (suc b)) _)
-expands-tilde (majorMinorPatch a b c is) h = let x = fits-each (fits a) (fits b) (fits c) h in add-and b _ _ ∙ rw (x .0, x .1, x .2) (ends₂ (fits (suc b)) _)
+expands-tilde (majorOnly a) h = let x = fits-each (fits a) true true h in add-and a _ _ ∙ rw (x .0) (fits-last (fits (suc a)) _)
+expands-tilde (majorMinor a b) h = let x = fits-each (fits a) (fits b) true h in add-and b _ _ ∙ rw (x .0, x .1) (fits-last (fits (suc b)) _)
+expands-tilde (majorMinorPatch a b c is) h = let x = fits-each (fits a) (fits b) (fits c) h in add-and b _ _ ∙ rw (x .0, x .1, x .2) (fits-last (fits (suc b)) _)
 
 pub expands-caret : (p : S.Partial) → partialFits p ≡ true → handle-caret-range (viewOf p) ≡ said (comparators (expandCaret p))
 unfolding said partialFits comparatorFits comparators asRead raised expandCaret caretRaises handle-caret-range major-zero minor-zero is-zero caret-zero caret-other caret-major as-comparator inc-major inc-minor inc-patch zero-missing zero-minor zero-patch no-pre placelessComparator _and_
 expands-caret xRangeOnly h = refl
 expands-caret (majorOnly zero) h = add-and 0 _ _
-expands-caret (majorOnly (suc a)) h = let x = fits-each (fits (suc a)) true true h in add-and (suc a) _ _ ∙ rw (x .0) (ends₂ (fits (suc (suc a))) _)
-expands-caret (majorMinor zero b) h = let x = fits-each true (fits b) true h in add-and b _ _ ∙ rw (x .1) (ends₂ (fits (suc b)) _)
-expands-caret (majorMinor (suc a) b) h = let x = fits-each (fits (suc a)) (fits b) true h in add-and (suc a) _ _ ∙ rw (x .0, x .1) (ends₂ (fits (suc (suc a))) _)
-expands-caret (majorMinorPatch zero zero c is) h = let x = fits-each true true (fits c) h in add-and c _ _ ∙ rw (x .2) (ends₁ (fits (suc c)) _)
+expands-caret (majorOnly (suc a)) h = let x = fits-each (fits (suc a)) true true h in add-and (suc a) _ _ ∙ rw (x .0) (fits-last (fits (suc (suc a))) _)
+expands-caret (majorMinor zero b) h = let x = fits-each true (fits b) true h in add-and b _ _ ∙ rw (x .1) (fits-last (fits (suc b)) _)
+expands-caret (majorMinor (suc a) b) h = let x = fits-each (fits (suc a)) (fits b) true h in add-and (suc a) _ _ ∙ rw (x .0, x .1) (fits-last (fits (suc (suc a))) _)
+expands-caret (majorMinorPatch zero zero c is) h = let x = fits-each true true (fits c) h in add-and c _ _ ∙ rw (x .2) (fits-one (fits (suc c)) _)
 expands-caret (majorMinorPatch zero (suc b) c is) h =
-    let x = fits-each true (fits (suc b)) (fits c) h in add-and (suc b) _ _ ∙ rw (x .1, x .2) (ends₂ (fits (suc (suc b))) _)
+    let x = fits-each true (fits (suc b)) (fits c) h in add-and (suc b) _ _ ∙ rw (x .1, x .2) (fits-last (fits (suc (suc b))) _)
 expands-caret (majorMinorPatch (suc a) b c is) h =
-    let x = fits-each (fits (suc a)) (fits b) (fits c) h in add-and (suc a) _ _ ∙ rw (x .0, x .1, x .2) (ends₂ (fits (suc (suc a))) _)
+    let x = fits-each (fits (suc a)) (fits b) (fits c) h in add-and (suc a) _ _ ∙ rw (x .0, x .1, x .2) (fits-last (fits (suc (suc a))) _)
 
 -- `=`, and what it gives to a bare partial
 expands-eq : (p : S.Partial) → partialFits p ≡ true → from-eq (kind (viewOf p)) (viewOf p) ≡ said (comparators (expandEq p))
 unfolding said partialFits comparatorFits comparators asRead raised expandEq from-eq as-comparator inc-major inc-minor zero-missing zero-patch placelessComparator _and_
 expands-eq xRangeOnly h = refl
-expands-eq (majorOnly a) h = let x = fits-each (fits a) true true h in add-and a _ _ ∙ rw (x .0) (ends₂ (fits (suc a)) _)
-expands-eq (majorMinor a b) h = let x = fits-each (fits a) (fits b) true h in add-and b _ _ ∙ rw (x .0, x .1) (ends₂ (fits (suc b)) _)
+expands-eq (majorOnly a) h = let x = fits-each (fits a) true true h in add-and a _ _ ∙ rw (x .0) (fits-last (fits (suc a)) _)
+expands-eq (majorMinor a b) h = let x = fits-each (fits a) (fits b) true h in add-and b _ _ ∙ rw (x .0, x .1) (fits-last (fits (suc b)) _)
 expands-eq (majorMinorPatch a b c is) h = let x = fits-each (fits a) (fits b) (fits c) h in rw (x .0, x .1, x .2) refl
 
 pub expands-bare : (m : Compat) (p : S.Partial) → partialFits p ≡ true → from-partial m (kind (viewOf p)) (viewOf p) ≡ said (comparators (expandBare (mode m) p))
@@ -103,8 +99,8 @@ expands-op gte (majorOnly a) h = kept gte (majorOnly a) h
 expands-op gte (majorMinor a b) h = kept gte (majorMinor a b) h
 expands-op gte (majorMinorPatch a b c is) h = kept gte (majorMinorPatch a b c is) h
 expands-op lte xRangeOnly h = refl
-expands-op lte (majorOnly a) h = add-and a _ _ ∙ ends₂ (fits (suc a)) _
-expands-op lte (majorMinor a b) h = let x = fits-each (fits a) (fits b) true h in add-and b _ _ ∙ rw (x .0) (ends₂ (fits (suc b)) _)
+expands-op lte (majorOnly a) h = add-and a _ _ ∙ fits-last (fits (suc a)) _
+expands-op lte (majorMinor a b) h = let x = fits-each (fits a) (fits b) true h in add-and b _ _ ∙ rw (x .0) (fits-last (fits (suc b)) _)
 expands-op lte (majorMinorPatch a b c is) h = kept lte (majorMinorPatch a b c is) h
 
 -- ---- hyphen ranges
@@ -122,6 +118,6 @@ expands-right xRangeOnly xRangeOnly h = refl
 expands-right (majorOnly a) xRangeOnly h = refl
 expands-right (majorMinor a b) xRangeOnly h = refl
 expands-right (majorMinorPatch a b c is) xRangeOnly h = refl
-expands-right p (majorOnly a) h = add-and a _ _ ∙ ends₂ (fits (suc a)) _
-expands-right p (majorMinor a b) h = let x = fits-each (fits a) (fits b) true h in add-and b _ _ ∙ rw (x .0) (ends₂ (fits (suc b)) _)
+expands-right p (majorOnly a) h = add-and a _ _ ∙ fits-last (fits (suc a)) _
+expands-right p (majorMinor a b) h = let x = fits-each (fits a) (fits b) true h in add-and b _ _ ∙ rw (x .0) (fits-last (fits (suc b)) _)
 expands-right p (majorMinorPatch a b c is) h = kept lte (majorMinorPatch a b c is) h

@@ -85,7 +85,7 @@ abbrev readAs : {A : Type 0} → List ℕ → A → List ℕ → Result A
 readAs w o s = literal w s then λ u r. P.ok o r
 
 -- one, or else the other
-abbrev _or_ : {A : Type 0} → Result A → Result A → Result A
+abbrev pub _or_ : {A : Type 0} → Result A → Result A → Result A
 g or h = choose g (λ a r. P.ok a r) h
 
 infixl 20 _or_
@@ -110,11 +110,18 @@ data Opens : List ℕ → Type 0 where
   opens-gt : {s : List ℕ} → Opens (62 ∷ s)
   opens-eq : {s : List ℕ} → Opens (61 ∷ s)
 
+or-gives : {A : Type 0} {Q : A → List ℕ → Type 0} {g h : Result A} → Gives Q g → Gives Q h → Gives Q (g or h)
+or-gives x y = gives-choose x (λ a r q. Results.gives q) y
+
 op-opens : (s : List ℕ) → Gives (λ o r. Opens s) (readOp s)
 unfolding readOp
 op-opens s =
-    gives-choose (gives-choose (gives-choose (gives-choose (gives-then (literal-sound (bytes "<=") s) λ u r k. Results.gives (lt₂ k)) (λ a r h. Results.gives h) (gives-then (literal-sound (bytes ">=") s) λ u r k. Results.gives (gt₂ k))) (λ a r h. Results.gives h) (gives-then (literal-sound (bytes ">") s) λ u r k. Results.gives (gt₁ k))) (λ a r h. Results.gives h) (gives-then (literal-sound (bytes "<") s) λ u r k. Results.gives (lt₁ k))) (λ a r h. Results.gives h) (gives-then (literal-sound (bytes "=") s) λ u r k. Results.gives (eq₁ k))
+    or-gives (or-gives (or-gives (or-gives (spelled (bytes "<=") lte λ r. lt₂) (spelled (bytes ">=") gte λ r. gt₂)) (spelled (bytes ">") gt λ r. gt₁)) (spelled (bytes "<") lt λ r. lt₁))
+    (spelled (bytes "=") eq λ r. eq₁)
   where
+    spelled : (w : List ℕ) (o : Op) → ((r : List ℕ) → Literal w s r → Opens s) → Gives (λ o r. Opens s) (readAs w o s)
+    spelled w o h = gives-then (literal-sound w s) λ u r k. Results.gives (h r k)
+
     lt₂ : {s r : List ℕ} → Literal (bytes "<=") s r → Opens s
     lt₂ (Gr.byte k) = opens-lt
 
@@ -179,7 +186,8 @@ unfolding readPrefix readOp readTilde choose _then_
 prefix-as s = go (literal (bytes "<=") s) (literal (bytes ">=") s) (literal (bytes ">") s) (literal (bytes "<") s) (literal (bytes "=") s) (literal (bytes "~>") s) (literal (bytes "~") s)
   where
     go : (a b c d e f g : Result (Unit {0}))
-        → choose a (λ u r. P.ok (op lte) r) (choose b (λ u r. P.ok (op gte) r) (choose c (λ u r. P.ok (op gt) r) (choose d (λ u r. P.ok (op lt) r) (choose e (λ u r. P.ok (op eq) r) (choose f (λ u r. P.ok tilde r) (choose g (λ u r. P.ok tilde r) (choose (literal (bytes "^") s) (λ u r. P.ok caret r) P.fail)))))))
+        → choose a (λ u r. P.ok (op lte) r) (choose b (λ u r. P.ok (op gte) r) (choose c (λ u r. P.ok (op gt) r) (choose d (λ u r. P.ok (op lt) r)
+        (choose e (λ u r. P.ok (op eq) r) (choose f (λ u r. P.ok tilde r) (choose g (λ u r. P.ok tilde r) (choose (literal (bytes "^") s) (λ u r. P.ok caret r) P.fail)))))))
         ≡ choose ((a then λ u r. P.ok lte r) or (b then λ u r. P.ok gte r) or (c then λ u r. P.ok gt r) or (d then λ u r. P.ok lt r) or (e then λ u r. P.ok eq r)) (λ o r. P.ok (op o) r)
         (choose (f or g) (λ u r. P.ok tilde r) (choose (literal (bytes "^") s) (λ u r. P.ok caret r) P.fail))
     go (P.ok u r) b c d e f g = refl
@@ -240,7 +248,8 @@ module _ (t : List ℕ) where
   op-text : (s : List ℕ) → Gives (λ o r. op-of (span s r) ≡ gives o) (readOp s)
   unfolding readOp op-of same
   op-text s =
-      gives-choose (gives-choose (gives-choose (gives-choose (spelled (bytes "<=") lte refl) (λ a r h. Results.gives h) (spelled (bytes ">=") gte refl)) (λ a r h. Results.gives h) (spelled (bytes ">") gt refl)) (λ a r h. Results.gives h) (spelled (bytes "<") lt refl)) (λ a r h. Results.gives h) (spelled (bytes "=") eq refl)
+      or-gives (or-gives (or-gives (or-gives (spelled (bytes "<=") lte refl) (spelled (bytes ">=") gte refl)) (spelled (bytes ">") gt refl)) (spelled (bytes "<") lt refl))
+      (spelled (bytes "=") eq refl)
     where
       spelled : (w : List ℕ) (o : Op) → op-of w ≡ gives o → Gives (λ o r. op-of (span s r) ≡ gives o) (readAs w o s)
       spelled w o e = gives-then (literal-sound w s) λ u r k. Results.gives (ap op-of (span-of w r s (literal-text k)) ∙ e)

@@ -93,7 +93,7 @@ pub data IsQualifier : List Identifier → Pairs → Type 0 where
   absent : IsQualifier [] end
   present : {is : List Identifier} {w : List ℕ} {i : Pairs} → IsParts is i → IsQualifier is (pair Rule.qualifier w i end)
 
-none-and : (a : Bool) → (a && false) ≡ false
+pub none-and : (a : Bool) → (a && false) ≡ false
 none-and true = refl
 none-and false = refl
 
@@ -122,7 +122,7 @@ module _ (t : List ℕ) where
   unfolding run isDigit
   digits-run s = class-star isDigit (run t (match-range 48 57)) (λ s. refl) s
 
-  pub nr-meets : (s : List ℕ) → Meets IsNr s (readNumber s) (run t G.nr s)
+  nr-meets : (s : List ℕ) → Meets IsNr s (readNumber s) (run t G.nr s)
   unfolding run G.nr readNumber P.run isNonzero _then_ _⊕_
   nr-meets s =
       rule-meets Rule.nr (or-meets (λ u. bytes "0") _ (matched-meets s (literal (bytes "0") s)) (λ u p e. e)
@@ -180,15 +180,15 @@ module _ (t : List ℕ) where
       rule-meets {Q = Any} Rule.part (or-meets (ofDigits (length s)) _ (nr-meets s) (λ w p q. tt)
       λ z. sequence-meets s (via (chain₂ _ _ ∙ ap (λ o. andThen o (starred (run t G.word-byte))) (word-one s ∙ ap (matched s) (letter-one s z))) (and-within (inside (matched-meets s (oneOf isLetter s))) λ c r p e. via (words-run r) (Within.reads tt)))) λ i r p e q. tt
 
-  dotPart-meets : (s : List ℕ) → Meets Any s (readDotIdentifier s) (run t G.dot-part s)
+  dot-part-meets : (s : List ℕ) → Meets Any s (readDotIdentifier s) (run t G.dot-part s)
   unfolding run G.dot-part readDotIdentifier
-  dotPart-meets s = sequence-meets s (via (chain₂ _ _) (and-within (inside (matched-meets s _)) λ u r p e. inside (part-meets r)))
+  dot-part-meets s = sequence-meets s (via (chain₂ _ _) (and-within (inside (matched-meets s _)) λ u r p e. inside (part-meets r)))
 
   parts-meets : (s : List ℕ) → Meets IsParts s (readIdentifiers s) (run t G.parts s)
   unfolding run G.parts readIdentifiers
   parts-meets s =
       rule-meets {Q = Any} Rule.parts (sequence-meets s (via (chain₂ _ _) (and-within (inside (part-meets s)) λ i r p e.
-      within-map (i ∷_) (gets-inside (star-meets readDotIdentifier (run t G.dot-part) dotPart-meets dotIdentifier-behind r)) λ is p q. tt)))
+      within-map (i ∷_) (gets-inside (star-meets readDotIdentifier (run t G.dot-part) dot-part-meets dotIdentifier-behind r)) λ is p q. tt)))
       λ is r p e q. isParts (identifiers-split (given (rw e at (identifiers-sound s))))
 
   qualifier-meets : (s : List ℕ) → Meets IsQualifier s (oneOf isSign s then λ c t. readIdentifiers t) (run t G.qualifier s)

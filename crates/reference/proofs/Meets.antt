@@ -24,7 +24,7 @@ unfolding _⊕_
 join-end end = refl
 join-end (pair n w i p) = ap (pair n w i) (join-end p)
 
-pub join-assoc : (p q r : Pairs) → (p ⊕ q) ⊕ r ≡ p ⊕ (q ⊕ r)
+join-assoc : (p q r : Pairs) → (p ⊕ q) ⊕ r ≡ p ⊕ (q ⊕ r)
 unfolding _⊕_
 join-assoc end q r = refl
 join-assoc (pair n w i p) q r = ap (pair n w i) (join-assoc p q r)
@@ -35,7 +35,7 @@ queued-end (ok r p) = refl
 queued-end (err r p) = refl
 queued-end endless = refl
 
-pub queued-queued : (p q : Pairs) (o : ParseResult) → queued (p ⊕ q) o ≡ queued p (queued q o)
+queued-queued : (p q : Pairs) (o : ParseResult) → queued (p ⊕ q) o ≡ queued p (queued q o)
 unfolding queued
 queued-queued p q (ok r x) = rw join-assoc
 queued-queued p q (err r x) = rw join-assoc
@@ -49,16 +49,16 @@ and-queued p (ok r q) f = queued-queued p q (f r)
 and-queued p (err r q) f = refl
 and-queued p endless f = refl
 
-pub and-and : (o : ParseResult) (f g : List ℕ → ParseResult) → andThen (andThen o f) g ≡ andThen o (λ r. andThen (f r) g)
+and-and : (o : ParseResult) (f g : List ℕ → ParseResult) → andThen (andThen o f) g ≡ andThen o (λ r. andThen (f r) g)
 unfolding andThen
 and-and (ok r p) f g = and-queued p (f r) g
 and-and (err r p) f g = refl
 and-and endless f g = refl
 
-abbrev pub skipped : List ℕ → ParseResult
+abbrev skipped : List ℕ → ParseResult
 skipped s = ok s end
 
-pub and-skip : (o : ParseResult) → andThen o skipped ≡ o
+and-skip : (o : ParseResult) → andThen o skipped ≡ o
 unfolding andThen queued
 and-skip (ok r p) = rw join-end
 and-skip (err r p) = refl
@@ -78,11 +78,10 @@ chain₃ o f g = chain₂ (o ⨾ f) g ∙ ap (λ x. andThen x g) (chain₂ o f) 
 pub chain₃-left : (o : ParseResult) (f g : List ℕ → ParseResult) → o ⨾ f ⨾ g ≡ andThen (andThen o f) g
 chain₃-left o f g = chain₂ (o ⨾ f) g ∙ ap (λ x. andThen x g) (chain₂ o f)
 
-pub chain₄ : (o : ParseResult) (f g h : List ℕ → ParseResult) → o ⨾ f ⨾ g ⨾ h ≡ andThen o λ r. andThen (f r) λ r. andThen (g r) h
-chain₄ o f g h = chain₂ (o ⨾ f ⨾ g) h ∙ ap (λ x. andThen x h) (chain₃ o f g) ∙ and-and o _ h ∙ ap (andThen o) (λ i r. and-and (f r) g h i)
-
-pub chain₅ : (o : ParseResult) (f g h k : List ℕ → ParseResult) → o ⨾ f ⨾ g ⨾ h ⨾ k ≡ andThen o λ r. andThen (f r) λ r. andThen (g r) λ r. andThen (h r) k
-chain₅ o f g h k = chain₂ (o ⨾ f ⨾ g ⨾ h) k ∙ ap (λ x. andThen x k) (chain₃ (o ⨾ f) g h ∙ ap (λ x. andThen x λ r. andThen (g r) h) (chain₂ o f)) ∙ and-and (andThen o f) _ k ∙ and-and o f _ ∙ ap (andThen o) (λ i r. ap (andThen (f r)) (λ j q. and-and (g q) h k j) i)
+chain₅ : (o : ParseResult) (f g h k : List ℕ → ParseResult) → o ⨾ f ⨾ g ⨾ h ⨾ k ≡ andThen o λ r. andThen (f r) λ r. andThen (g r) λ r. andThen (h r) k
+chain₅ o f g h k =
+    chain₂ (o ⨾ f ⨾ g ⨾ h) k ∙ ap (λ x. andThen x k) (chain₃ (o ⨾ f) g h ∙ ap (λ x. andThen x λ r. andThen (g r) h) (chain₂ o f))
+    ∙ and-and (andThen o f) _ k ∙ and-and o f _ ∙ ap (andThen o) (λ i r. ap (andThen (f r)) (λ j q. and-and (g q) h k j) i)
 
 -- a chain of five, the middle three bracketed
 pub chain₁₃₁ : (o : ParseResult) (f g h k : List ℕ → ParseResult) → o ⨾ f ⨾ g ⨾ h ⨾ k ≡ andThen o λ r. andThen (andThen (f r) λ r. andThen (g r) h) k
@@ -107,7 +106,7 @@ module _ {A : Type 0} {Q : A → Pairs → Type 0} where
   inside (Meets.reads q) = Within.reads q
   inside Meets.misses = Within.misses
 
-  pub queued-within : (p : Pairs) {g : Result A} {o : ParseResult} → Within (λ b q. Q b (p ⊕ q)) g o → Within Q g (queued p o)
+  queued-within : (p : Pairs) {g : Result A} {o : ParseResult} → Within (λ b q. Q b (p ⊕ q)) g o → Within Q g (queued p o)
   unfolding queued
   queued-within p (Within.reads q) = Within.reads q
   queued-within p Within.misses = Within.misses
@@ -184,7 +183,7 @@ pub gets-map : {A B : Type 0} {Q : A → Pairs → Type 0} {R : B → Pairs → 
 unfolding _then_
 gets-map k (gets {a} {p} q) h = gets (h a p q)
 
-pub queued-gets : {A : Type 0} {Q : A → Pairs → Type 0} (p : Pairs) {g : Result A} {o : ParseResult} → Gets (λ b q. Q b (p ⊕ q)) g o → Gets Q g (queued p o)
+queued-gets : {A : Type 0} {Q : A → Pairs → Type 0} (p : Pairs) {g : Result A} {o : ParseResult} → Gets (λ b q. Q b (p ⊕ q)) g o → Gets Q g (queued p o)
 unfolding queued
 queued-gets p (gets q) = gets q
 

@@ -43,7 +43,7 @@ always q P.fail = Results.nothing
 always q (P.ok a r) = Results.gives q
 
 -- no item follows, no separator, and not the end
-pub record Stuck (s : List ℕ) : Type 0 where
+record Stuck (s : List ℕ) : Type 0 where
   pub no-next : readNext s ≡ P.fail
   pub no-bars : readSeparator s ≡ P.fail
   pub no-end : atEnd (skip s) ≡ P.fail
@@ -78,7 +78,7 @@ dash-stuck (c ∷ s) = go (isSpace c) refl
 -- ---- ranges
 
 -- 01's reader and the crate's
-pub data Near : Result Range → Result Range → Type 0 where
+data Near : Result Range → Result Range → Type 0 where
   alike : {g : Result Range} → Near g g
   dashed : {a : Range} {r : List ℕ} → Stuck r → Near P.fail (P.ok a r)
 
@@ -135,7 +135,7 @@ prefix-near s (P.ok f r) (P.ok p t) v = let e = Results.given v .0 in let z : _�
 prefix-near s P.fail P.fail v = alike
 prefix-near s P.fail (P.ok p t) v = dash-near s t p (readDash t) (dash-stuck t)
 
-pub range-near : (s : List ℕ) → Near (readRange s) (rangeInOrder s)
+range-near : (s : List ℕ) → Near (readRange s) (rangeInOrder s)
 unfolding readRange rangeInOrder readHyphen readListed readItem
 range-near s = prefix-near s (readPrefix s) (readPartial s) (prefix-marked s)
 
@@ -143,9 +143,6 @@ range-near s = prefix-near s (readPrefix s) (readPartial s) (prefix-marked s)
 
 unfoldable pub furtherInOrder : List ℕ → Result Range
 furtherInOrder s = readSeparator s then λ u t. rangeInOrder t
-
-abbrev ending : Result Range → (List ℕ → Result (List Range)) → Result (List Range)
-ending g f = g then λ a t. f t then λ l r. atEnd (skip r) then λ u e. P.ok (a ∷ l) e
 
 unfoldable pub textInOrder : List ℕ → Result (List Range)
 textInOrder s = rangeInOrder (skip s) then λ a t. all furtherInOrder t then λ l r. atEnd (skip r) then λ u e. P.ok (a ∷ l) e

@@ -70,7 +70,7 @@ viewOf (majorMinorPatch a b c is) = partial (some a) (some b) (some c) (map plac
 abbrev pub given : {A : Type 0} → Bool → OrPanic A → OrPanic A
 given b x = pick b x panics
 
-fits-one : {A : Type 0} (a : Bool) (x : OrPanic A) → given a x ≡ given (a && true) x
+pub fits-one : {A : Type 0} (a : Bool) (x : OrPanic A) → given a x ≡ given (a && true) x
 fits-one true x = refl
 fits-one false x = refl
 

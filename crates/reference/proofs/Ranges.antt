@@ -25,7 +25,7 @@ use Rattle.reference.proofs.Meets.{queued-end, chain₂, chain₃, chai
 use Rattle.reference.proofs.Lexed.{space-one, spaces-run}
 use Rattle.reference.proofs.Partials.{viewOf, given, IsPartial, isPartial, partial-meets}
 use Rattle.reference.proofs.Expands.{said, expands-left, expands-right}
-use Rattle.reference.proofs.Items.{itemSaid, given-and, given-same, joined-none, IsItem, isItem, simple-meets}
+use Rattle.reference.proofs.Items.{_or_, itemSaid, given-and, given-same, joined-none, IsItem, isItem, simple-meets}
 
 -- ---- what the crate answers to a range
 
@@ -107,10 +107,6 @@ items-ranged i is k h = isRanged λ m. each-items (i ∷ is) k h m
 
 -- ---- the rules
 
-abbrev _or_ : {A : Type 0} → Result A → Result A → Result A
-g or h = choose g (λ a r. P.ok a r) h
-
-infixl 20 _or_
 -- a hyphen range; items
 unfoldable pub readHyphen : List ℕ → Result Range
 readHyphen s = readPartial s then λ p t. readDash t then λ u v. readPartial v then λ q r. P.ok (hyphen p q) r

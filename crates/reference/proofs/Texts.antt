@@ -28,7 +28,7 @@ pub literal-text : {w s r : List ℕ} → Literal w s r → s ≡ w ++ r
 literal-text G.done = refl
 literal-text (G.byte {c} k) = ap (c ∷_) (literal-text k)
 
-pub run-text : {p : ℕ → Bool} {s w r : List ℕ} → Run p s w r → s ≡ w ++ r
+run-text : {p : ℕ → Bool} {s w r : List ℕ} → Run p s w r → s ≡ w ++ r
 run-text Run.stop = refl
 run-text (Run.more {c} e k) = ap (c ∷_) (run-text k)
 
@@ -58,7 +58,7 @@ number-parse (G.digits (OneOf.one {c} {s} e) k) =
 
 -- ---- identifiers
 
-abbrev pub Dotless : List ℕ → Type 0
+abbrev Dotless : List ℕ → Type 0
 Dotless [] = Unit {0}
 Dotless (c ∷ w) = (eqb c 46 ≡ false) × Dotless w
 
