@@ -1,9 +1,9 @@
 //! Compares the definitions of crates/reference/specs with the source of the crate semver-parser 0.10.3. Run by oracle/transcribed.
 //!
-//! Generated.antt: each function of src/generated.rs, and its enum `Rule`, is read into a tree, and so is its definition.
-//! A definition that is no function of the source is a name for a part of others, and is put in their place.
-//! Range.antt, RangeSet.antt: a comment `-- NUMBER: ` with a line of the source behind it must have that line of the
-//! file, and each `fn` of the file must stand in such a comment.
+//! Generated.antt: each function of src/generated.rs and its definition are read into trees. A definition that is no
+//! function of the source is a name for a part of others, and is put in their place.
+//! Range.antt, RangeSet.antt: a comment that cites a line of src/range.rs or src/range_set.rs by its number must have
+//! that line, and each function of theirs must be cited.
 
 use std::collections::{BTreeMap, BTreeSet};
 use std::process::ExitCode;
@@ -18,13 +18,14 @@ fn main() -> ExitCode {
         fs::read_to_string(format!("{folder}/{name}")).unwrap_or_else(|e| panic!("{folder}/{name}: {e}"))
     };
     let generated = read(source, "generated.rs");
-    let range = read(source, "range.rs");
-    let range_set = read(source, "range_set.rs");
+    let (range, range_set) = (read(specs, "Range.antt"), read(specs, "RangeSet.antt"));
+    let mut cited = citations("range.rs", &range);
+    cited.extend(citations("range_set.rs", &range_set));
 
     let mut faults = compare_rules(&generated, &read(specs, "Rule.antt"));
     faults += compare_functions(&generated, &read(specs, "Generated.antt"));
-    faults += compare_lines("range.rs", &range, &[("range_set.rs", &range_set)], &read(specs, "Range.antt"), &[]);
-    faults += compare_lines("range_set.rs", &range_set, &[], &read(specs, "RangeSet.antt"), &["new", "from_str"]);
+    faults += compare_lines("range.rs", &read(source, "range.rs"), &cited, &[]);
+    faults += compare_lines("range_set.rs", &read(source, "range_set.rs"), &cited, &["new", "from_str"]);
     ExitCode::from(u8::from(faults > 0))
 }
 
@@ -303,9 +304,7 @@ fn written_out(
     functions: &BTreeMap<String, Tree>,
     used: &mut BTreeSet<String>,
 ) -> Tree {
-    if let (true, Some(part), false) =
-        (body.parts.is_empty(), definitions.get(&body.name), functions.contains_key(&body.name))
-    {
+    if let (Some(part), false) = (definitions.get(&body.name), functions.contains_key(&body.name)) {
         used.insert(body.name.clone());
         return written_out(part, definitions, functions, used);
     }
@@ -315,59 +314,60 @@ fn written_out(
 
 /// The names of the enum, in order; and that the generated `parse` calls the function of each rule's name.
 fn compare_rules(source: &str, text: &str) -> usize {
-    let variants = source.split_once("pub enum Rule {").expect("the enum").1.split_once('}').unwrap().0;
-    let variants: Vec<_> =
-        variants.split(',').map(|line| line.lines().last().unwrap_or("").trim().trim_start_matches("r#")).collect();
-    let variants: Vec<_> = variants.into_iter().filter(|name| !name.is_empty()).collect();
-    let names = text.split_once("pub data Rule : Type 0 where\n").expect("the data").1.split_once(" : Rule").unwrap().0;
-    let names: Vec<_> = names.split_whitespace().map(underscored).collect();
-    let called = variants.iter().filter(|name| {
-        let raw = if **name == "EOI" { "EOI".to_string() } else { format!("r#{name}") };
-        source.contains(&format!("Rule::{raw} => rules::{raw}(state),"))
-    });
-    let called = called.count();
-    let same = variants.iter().zip(&names).filter(|(variant, name)| variant == name).count();
+    let variants = between(source, "pub enum Rule {", "}").lines().map(str::trim);
+    let variants: Vec<_> = variants.filter_map(|line| line.strip_suffix(',')).collect();
+    let names = between(text, "pub data Rule : Type 0 where\n", " : Rule").split_whitespace();
+    let names: Vec<_> = names.map(underscored).collect();
+
+    let is_called = |variant: &&&str| source.contains(&format!("Rule::{variant} => rules::{variant}(state),"));
+    let called = variants.iter().filter(is_called).count();
+    let is_same = |(variant, name): &(&&str, &String)| variant.trim_start_matches("r#") == *name;
+    let same = variants.iter().zip(&names).filter(is_same).count();
     let all = variants.len().max(names.len());
     println!("generated.rs: {same} of {all} rules the same, {called} called by their names");
     2 * all - same - called
 }
 
+fn between<'a>(text: &'a str, start: &str, end: &str) -> &'a str {
+    let (_, rest) = text.split_once(start).unwrap_or_else(|| panic!("no {start:?}"));
+    rest.split_once(end).unwrap_or_else(|| panic!("no {end:?} behind {start:?}")).0
+}
+
 // ---- src/range.rs, src/range_set.rs
 
-/// The comments `NUMBER: ` with a line in backquotes, each against that line of the file; `OTHER NUMBER: ` of another file.
-fn compare_lines(name: &str, source: &str, others: &[(&str, &str)], text: &str, left_out: &[&str]) -> usize {
-    let mut cited = BTreeSet::new();
-    let (mut same, mut all) = (0, 0);
-    for comment in text.lines().filter_map(|line| line.strip_prefix("-- ")) {
-        let Some((place, line)) = comment.split_once(": `") else { continue };
-        let (file, number) = match place.split_once(' ') {
-            Some((other, number)) => {
-                (others.iter().find(|(name, _)| *name == other).map(|(_, source)| *source), number)
-            }
-            None => (Some(source), place),
-        };
-        let (Some(file), Ok(number)) = (file, number.parse::<usize>()) else { continue };
-        let line = line.split_once('`').expect("the end of the line").0;
-        all += 1;
-        match file.lines().nth(number - 1).map(str::trim) {
-            Some(found) if found == line => same += 1,
-            found => println!("{name} {number} is {found:?}, and not {line:?}"),
-        }
-        cited.insert((place.contains(' '), number));
-    }
-    let mut missing = 0;
-    let lines: Vec<_> = source.lines().collect();
-    for (at, line) in lines.iter().enumerate() {
-        let Some((_, function)) = line.split_once("fn ") else { continue };
-        let function = function.split(['(', '<']).next().unwrap();
-        // a function's own line, or the one line of its body
-        let found = cited.contains(&(false, at + 1)) || cited.contains(&(false, at + 2));
-        if !found && !left_out.contains(&function) {
-            println!("{name} {}: {function} is not transcribed", at + 1);
-            missing += 1;
-        }
-    }
-    println!("{name}: {same} of {all} lines the same, {missing} functions missing");
-    assert!(all > 0, "no line of {name} is cited");
-    all - same + missing
+/// A line of the source, as a comment has it.
+struct Citation<'a> {
+    file: &'a str,
+    number: usize,
+    line: &'a str,
+}
+
+/// The comments `-- NUMBER: ` and `-- FILE NUMBER: ` with a line in backquotes.
+fn citations<'a>(file: &'a str, text: &'a str) -> Vec<Citation<'a>> {
+    let citation = |comment: &'a str| {
+        let (place, line) = comment.strip_prefix("-- ")?.split_once(": `")?;
+        let (file, number) = place.split_once(' ').unwrap_or((file, place));
+        Some(Citation { file, number: number.parse().ok()?, line: line.split_once('`')?.0 })
+    };
+    text.lines().filter_map(citation).collect()
+}
+
+/// Each line that is cited, and each function that is not; of the latter some are left out.
+fn compare_lines(name: &str, source: &str, citations: &[Citation], left_out: &[&str]) -> usize {
+    let lines: Vec<_> = source.lines().map(str::trim).collect();
+    let cited: Vec<&Citation> = citations.iter().filter(|citation| citation.file == name).collect();
+    let is_there = |citation: &&Citation| lines.get(citation.number - 1) == Some(&citation.line);
+    let (same, others): (Vec<&Citation>, Vec<&Citation>) = cited.iter().copied().partition(is_there);
+    others.iter().for_each(|citation| println!("{name} {} is not {:?}", citation.number, citation.line));
+
+    // by its own line, or by the one line of its body
+    let is_cited = |at: usize| same.iter().any(|citation| [at + 1, at + 2].contains(&citation.number));
+    let functions = lines.iter().enumerate().filter_map(|(at, line)| Some((at, line.split_once("fn ")?.1)));
+    let functions = functions.map(|(at, line)| (at, line.split('(').next().unwrap()));
+    let missing: Vec<_> = functions.filter(|(at, name)| !is_cited(*at) && !left_out.contains(name)).collect();
+    missing.iter().for_each(|(at, function)| println!("{name} {}: {function} is not transcribed", at + 1));
+
+    println!("{name}: {} of {} lines the same, {} functions missing", same.len(), cited.len(), missing.len());
+    assert!(!cited.is_empty(), "no line of {name} is cited");
+    others.len() + missing.len()
 }

@@ -1,6 +1,7 @@
--- THE THEOREMS of requirement 2: acceptance and comparators are those of `RangeSet::parse` of the crate semver-parser 0.10.3, for every text. `parse` is that
--- function as it is transcribed (reference/specs), in the build with overflow checks; a release build wraps at the sums where this one panics.
--- The crate has two modes, and these theorems are about them. They stay as they are when other modes and rules are added here.
+-- THE THEOREMS of requirement 2: acceptance and comparators are those of `RangeSet::parse` of the crate semver-parser 0.10.3, for every text. `parse` is
+-- that function as it is transcribed (reference/specs), in the build with overflow checks. A release build wraps where this one panics at a sum:
+-- there `18446744073709551615` is `Ok` with `<0.0.0`.
+-- The theorems are about the crate's two modes, Cargo and Npm. When 02 adds modes and rules to 01's, they stay as they are.
 -- Assumes nothing.
 use mathlib.Core.Logic.{_↔_, _⊎_}
 use mathlib.Core.Path.{_≡_}
@@ -57,14 +58,18 @@ err-grammar = Parsed.err-grammar
 pub parse-str : (m : Compat) (s : List ℕ) → length (utf8 s) ≤ longest → parse m s ≡ seen (reading (mode m) (utf8 s))
 parse-str = Parsed.parse-str
 
--- ---- 4. The compiled calls, by their promises: κs are a call's lifetimes, `args` its arguments, r its answer, `exit` its arguments as it leaves them,
--- and `Post` is what its contract promises of them. Wherever the rows of what the crate returns fit the lent words, the call hands that back.
+-- ---- 4. The compiled calls, by their promises. κs are a call's lifetimes, `args` its arguments, r (or n) its answer, `exit` its arguments as it leaves
+-- them; `Post` is what its contract promises of these. `.0` is the text, `.1 .0` the mode, `.1 .1 .0` the comparator words, `.1 .1 .1 .0` the identifier words.
+-- Of a text of at most 65,535 bytes, wherever the rows of what the crate returns fit the lent words, the call hands that back.
+
+-- `rangeset::read`
 
 pub read-parse : (m : Compat) (κs : _) (args : _) (r : _) (exit : _) → Read.Post κs args r exit → compatOf (args .1 .0) ≡ mode m
     → length (now (args .0)) ≤ longest → RowsFit (parse m (now (args .0))) (length (now (args .1 .1 .0))) (length (now (args .1 .1 .1 .0)))
     → parse m (now (args .0)) ≡ handed (now (args .0)) (outcomeOf r) (now (exit .1 .1 .0)) (now (exit .1 .1 .1 .0))
 read-parse = Calls.read-parse
 
+-- `maluwesi_read`, which Rust and C link; behind the words it is lent the places of the three counts
 pub maluwesi-read-parse : (m : Compat) (κs : _) (args : _) (n : _) (exit : _) → MaluwesiRead.Post κs args n exit → modeOf (args .1 .0) ≡ accepted (mode m)
     → length (now (args .0)) ≤ longest → RowsFit (parse m (now (args .0))) (length (now (args .1 .1 .0))) (length (now (args .1 .1 .1 .0)))
     → parse m (now (args .0)) ≡ handed (now (args .0))

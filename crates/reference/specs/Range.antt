@@ -29,6 +29,7 @@ pub data PartialKind : Type 0 where
 pub data Partial : Type 0 where
   partial : Option ℕ → Option ℕ → Option ℕ → List Identifier → PartialKind → Partial
 
+-- its last field
 abbrev pub kind : Partial → PartialKind
 kind (partial a b c is k) = k
 
@@ -70,11 +71,13 @@ no-pre (partial a b c is k) = partial a b c [] k
 
 -- ---- parse_partial
 
--- 556: `let identifier = match bit.parse::<u64>() {`
+-- 557: `Ok(num) => Identifier::Numeric(num),`
+-- 558: `Err(_) => Identifier::AlphaNumeric(bit.to_string()),`
 unfoldable pub identifier-of : List ℕ → Option ℕ → Identifier
 identifier-of bit (some num) = number num
 identifier-of bit none = text 0 bit
 
+-- 556: `let identifier = match bit.parse::<u64>() {`
 unfoldable pub identifier : List ℕ → Identifier
 identifier bit = identifier-of bit (parse-u64 bit)
 

@@ -8,6 +8,7 @@ use Rattle.rules.specs.Bytes.{pick}
 pub data Rule : Type 0 where
   EOI range-set logical-or range empty hyphen simple primitive primitive-op partial xr xr-op nr tilde caret qualifier parts part space : Rule
 
+-- its place there
 abbrev pub discriminant : Rule → ℕ
 discriminant Rule.EOI = 0
 discriminant Rule.range-set = 1

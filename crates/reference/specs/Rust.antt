@@ -25,11 +25,12 @@ joined panics d = panics
 joined (gives l) panics = panics
 joined (gives l) (gives k) = gives (l ++ k)
 
--- `Option::unwrap`, and `Option::unwrap_or(0)`
+-- `Option::unwrap`
 unfoldable pub unwrap : {A : Type 0} → Option A → OrPanic A
 unwrap none = panics
 unwrap (some a) = gives a
 
+-- `Option::unwrap_or(0)`
 abbrev pub unwrap-or-zero : Option ℕ → ℕ
 unwrap-or-zero none = 0
 unwrap-or-zero (some a) = a
@@ -38,20 +39,22 @@ unwrap-or-zero (some a) = a
 unfoldable pub add-one : ℕ → OrPanic ℕ
 add-one n = pick (leb (suc n) largest) (gives (suc n)) panics
 
--- `str::parse::<u64>`: Ok of one or more digits whose value fits, behind a `+` or none
+-- one or more digits, of a value that fits
 unfoldable pub digits-u64 : List ℕ → Option ℕ
 digits-u64 [] = none
 digits-u64 (c ∷ w) = pick (each isDigit (c ∷ w)) (pick (leb (value (c ∷ w)) largest) (some (value (c ∷ w))) none) none
 
+-- `str::parse::<u64>`: such digits, behind a `+` or none
 unfoldable pub parse-u64 : List ℕ → Option ℕ
 parse-u64 [] = none
 parse-u64 (c ∷ w) = pick (eqb c 43) (digits-u64 w) (digits-u64 (c ∷ w))
 
--- `str::split`: the parts between the characters b
+-- the character put before the first text
 unfoldable pub to-first : ℕ → List (List ℕ) → List (List ℕ)
 to-first c [] = (c ∷ []) ∷ []
 to-first c (w ∷ ws) = (c ∷ w) ∷ ws
 
+-- `str::split`: the texts between the characters b
 unfoldable pub split : ℕ → List ℕ → List (List ℕ)
 split b [] = [] ∷ []
 split b (c ∷ w) = pick (eqb c b) ([] ∷ split b w) (to-first c (split b w))

@@ -13,6 +13,7 @@ encode c =
     (pick (leb c 0xFFFF) ((0xE0 + c / 4096) ∷ (0x80 + c / 64 % 64) ∷ (0x80 + c % 64) ∷ [])
     ((0xF0 + c / 262144) ∷ (0x80 + c / 4096 % 64) ∷ (0x80 + c / 64 % 64) ∷ (0x80 + c % 64) ∷ [])))
 
+-- a text of characters
 unfoldable pub utf8 : List ℕ → List ℕ
 utf8 [] = []
 utf8 (c ∷ s) = encode c ++ utf8 s

@@ -1,5 +1,6 @@
 -- THE THEOREMS about the definitions of specs/, each in its final form; its proof is cited. A reader who believes the definitions and
--- reads this file knows what is proved of them.
+-- reads this file knows what is proved of them. That the answers are those of the crate semver-parser (requirement 2) is proved above, in
+-- conformance/proofs/Theorems.antt.
 -- Assumes nothing.
 use mathlib.Core.Logic.{_↔_, _⊎_}
 use mathlib.Core.Path.{_≡_}
