@@ -138,7 +138,7 @@ unfoldable pub parse-partial : Pairs → OrPanic Partial
 parse-partial end = panics
 parse-partial (pair rule w inner more) = component rule inner and one-is more
 
--- 211: `let partial_component = components.remove(0);`, and so 288, 297, 420 and 430: the first pair, and `parse_partial` of the pairs in it
+-- 211: `let partial_component = components.remove(0);`, and so 288, 297 and 430: `parse_partial` of the pairs in the first pair
 unfoldable pub first-partial : Pairs → OrPanic Partial
 first-partial end = panics
 first-partial (pair rule w inner more) = parse-partial inner
@@ -214,7 +214,7 @@ from-eq MajorMinor p = inc-minor p and λ q. gives (push gte (zero-patch p) ++ p
 from-eq MajorMinorPatch p = gives (push eq p)
 
 -- 216: `if op == Op::Eq {`
--- 241: `match partial.kind {`
+-- 241: `match partial.kind {`; its arm for `Op::Eq` is never taken
 unfoldable pub from-op : Op → PartialKind → Partial → OrPanic (List Comparator)
 from-op eq k p = from-eq k p
 from-op lt XRangeOnly p = gives (push lt (zero-missing p))

@@ -14,7 +14,8 @@ abbrev pub mode : Compat → E.Compat
 mode Cargo = E.cargo
 mode Npm = E.npm
 
--- Accepted is `Ok` with the same comparators, whose identifiers have no places; 2 is `Err`; 3 and 4 are a panic. The crate has no limit like 1's.
+-- Accepted is `Ok` with the same comparators, whose identifiers have no places; 2 is `Err`; 3 and 4 are a panic. The crate has no limit like 1's, and the
+-- theorems speak of no text beyond it.
 unfoldable pub seen : Answer Reading → Returned
 seen (accepted rs) = Ok (placelessReading rs)
 seen (refused n) = pick (eqb n 2) Err panicked
