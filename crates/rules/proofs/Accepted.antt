@@ -95,3 +95,14 @@ refused-2 m t l = (λ e. go (rw e at (decided m t)), λ h. back h (reading m t) 
     back h a e (large {rs} k d f) = absurd (h rs d)
     back h a e (raised {rs} k d f g) = absurd (h rs d)
     back h a e (accepts {rs} k d f g) = absurd (h rs d)
+
+-- ---- no refusal has the number 0
+
+pub reading-number : (m : Compat) (t : List ℕ) (n : ℕ) → reading m t ≡ refused n → n ≡ 0 → ⊥
+reading-number m t n q = go (rw q at (decided m t))
+  where
+    go : {n : ℕ} → Decided m t (refused n) → n ≡ 0 → ⊥
+    go (long h) e = omega arith
+    go (underivable l u) e = omega arith
+    go (large l d f) e = omega arith
+    go (raised l d f g) e = omega arith

@@ -19,6 +19,7 @@ pub mod Spelling
 pub mod NormalTextCall
 pub mod RoundTrip
 pub mod Equal
+pub mod RowsLaws
 pub mod Left
 pub mod Repeat
 pub mod Heads
@@ -30,6 +31,7 @@ pub mod WalkLaws
 pub mod StepNames
 pub mod Tallies
 pub mod ReadingCall
+pub mod HandedBack
 pub mod WalkWords
 pub mod WalkText
 pub mod Source
