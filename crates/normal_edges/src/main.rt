@@ -6,6 +6,7 @@
 // A long text stands by its name, and for its lent bytes how many still hold `_`; for a normal text also the last fifteen.
 ghost use Prim.Native.Nat.{_≤_};
 use equality::Equality;
+use equality::Reread;
 use equality::equal_readings;
 use equality::read_normal_text;
 use normal_text::NormalText;
@@ -18,6 +19,7 @@ use printing::put_mode;
 use printing::put_number;
 use printing::put_words;
 use range::Compat;
+use rangeset::Reading;
 
 fn put_quoted(text: &[u8]) {
     put(b"`");
@@ -122,6 +124,15 @@ fn blanks() {
 
 // ---- normal texts, read again
 
+// 01's number and the counts; whose refusal it is stands in the answer, and is not printed.
+fn put_reread(r: Reread) {
+    match r {
+        Reread::Accepted(counts) => put_counts(Reading::Accepted(counts)),
+        Reread::TextRefused(refusal) => put_counts(Reading::Refused(refusal)),
+        Reread::NormalRefused(refusal) => put_counts(Reading::Refused(refusal)),
+    }
+}
+
 // One call, and then all lent bytes and words.
 fn reread_in(
     text: &[u8],
@@ -133,7 +144,7 @@ fn reread_in(
 ) {
     put_mode(compat);
     put_mode(other);
-    put_counts(read_normal_text(text, compat, other, out, words, ids));
+    put_reread(read_normal_text(text, compat, other, out, words, ids));
     put(b"\n  bytes ");
     put_line(out);
     put(b"  comparators");
@@ -186,7 +197,7 @@ fn reread_long(name: &[u8], text: &[u8]) {
     let mut out = [b'_'; 65551];
     let mut words = [7u64; 49164];
     put(name);
-    put_counts(read_normal_text(
+    put_reread(read_normal_text(
         text,
         Compat::Cargo,
         Compat::Npm,

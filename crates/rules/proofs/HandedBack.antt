@@ -57,19 +57,25 @@ pub record Reads (m : Compat) (t words ids : List ℕ) : Type 0 where
 pub start : (w old now : List ℕ) (n : ℕ) → length w ≡ n → now ≡ w ++ drop (length w) old → take n now ≡ w
 start w old now n e h = ap₂ take (sym e) h ∙ take-append-seam w (drop (length w) old)
 
-module _ (m : Compat) (t words ids : List ℕ) where
-  abbrev called : Answer Reading
-  called = readingCall m t (length words) (length ids)
-
-  pub handed-reading : (rs : Reading) → reading m t ≡ accepted rs → called ≡ accepted rs → readingHandedBack m t words ids ≡ rs
-  unfolding readingHandedBack handedBack readingOutcome comparatorWordsAfter identifierWordsAfter written
-  handed-reading rs i e = rw e (ap₂ (λ cws iws. readBack t cws iws) cs is ∙ read-back m t rs i)
+-- the rows of a text's reading, at the start of each slice, give it back
+module _ (m : Compat) (t : List ℕ) (rs : Reading) (i : reading m t ≡ accepted rs) (words ids : List ℕ) where
+  pub handed-rows : handedBack t (readingOutcome (accepted rs)) (comparatorWordsAfter (accepted rs) words) (identifierWordsAfter t (accepted rs) ids) ≡ rs
+  unfolding handedBack readingOutcome comparatorWordsAfter identifierWordsAfter written
+  handed-rows = ap₂ (λ cws iws. readBack t cws iws) cs is ∙ read-back m t rs i
     where
       cs : take (6 * comparatorRows rs) (comparatorWordsAfter (accepted rs) words) ≡ comparatorWords rs
       cs = start (comparatorWords rs) words _ _ (words-length rs) refl
 
       is : take (3 * identifierRows rs) (identifierWordsAfter t (accepted rs) ids) ≡ identifierWords (length t) rs
       is = start (identifierWords (length t) rs) ids _ _ (names-length (length t) rs) refl
+
+module _ (m : Compat) (t words ids : List ℕ) where
+  abbrev called : Answer Reading
+  called = readingCall m t (length words) (length ids)
+
+  handed-reading : (rs : Reading) → reading m t ≡ accepted rs → called ≡ accepted rs → readingHandedBack m t words ids ≡ rs
+  unfolding readingHandedBack
+  handed-reading rs i e = rw e (handed-rows m t rs i words ids)
 
   pub call-reading : (rs : Reading) → called ≡ accepted rs → reading m t ≡ accepted rs
   unfolding readingCall

@@ -1,4 +1,4 @@
-use Rattle.equality.proofs.Rereading.{refusing, rereading}
+use Rattle.equality.proofs.Rereading.{refusing-text, refusing-normal, rereading}
 use borrow.Author.Needs.{needs}
 use Rattle.equality.proofs.read_normal_text.Statement.{statement}
 use Rattle.equality.proofs.read_normal_text.Tie as tie
@@ -9,8 +9,6 @@ read-normal-text-spec =
     (tie.spec
     (λ c κs. search (rereading, needs))
     (λ c. search (rereading, needs))
-    (λ c. search (rereading, needs))
-    (λ c. (search (refusing, needs), (search (refusing, needs), (search (refusing, needs), (search (refusing, needs), search (refusing, needs))))))
     (λ c κs. search (rereading, needs))
     (λ c. search (rereading, needs))
     (λ c. search (rereading, needs))
@@ -18,4 +16,8 @@ read-normal-text-spec =
     (λ c. search (rereading, needs))
     (λ c. search (rereading, needs))
     (λ c. search (rereading, needs))
-    (λ c. (search (rereading, needs), (search (rereading, needs), (search (rereading, needs), (search (rereading, needs), search (rereading, needs)))))))
+    (λ c. search (rereading, needs))
+    (λ c. search (rereading, needs))
+    (λ c. (search (rereading, needs), (search (rereading, needs), (search (rereading, needs), (search (rereading, needs), search (rereading, needs))))))
+    (λ c. (search (refusing-text, needs), (search (refusing-text, needs), (search (refusing-text, needs), (search (refusing-text, needs), search (refusing-text, needs))))))
+    (λ c. (search (refusing-normal, needs), (search (refusing-normal, needs), (search (refusing-normal, needs), (search (refusing-normal, needs), search (refusing-normal, needs)))))))
