@@ -3,18 +3,18 @@
 use Prim.Native.Nat.{ℕ, suc, _+_, _-_, _<_, _≤_}
 use mathlib.Core.Path.{_≡_, refl, sym, ap, ap₂, _∙_}
 use mathlib.Core.Bool.{Bool, true, false, _&&_}
-use mathlib.Core.List.{List, [], _∷_, _++_}
+use mathlib.Core.List.{List, [], _∷_}
 use native.Mathlib.Omega.{arith}
 use borrow.Author.Tests.{eq-eqb, ne-eqb}
 use lib.Dec.{eqb}
-use lib.ListN.{length, take, drop, getD, length-append, length-drop}
-use lib.Seq.{drop-cons, take-append-seam}
+use lib.ListN.{length, take, drop, getD, length-drop}
+use lib.Seq.{drop-cons}
 use Rattle.rules.specs.Expansion as E
 use Rattle.rules.specs.Expansion.{Compat}
 use Rattle.rules.specs.NormalText.{spell}
 use Rattle.rules.specs.Answers.{Answer, accepted, refused, reading, normalText, normalTextCall, normalTextOutcome, written, bytesAfter}
 use Rattle.rules.specs.Equality.{sameBytes, Texts, textsCall, textsEqual, firstAfter, secondAfter, Tells}
-use Rattle.rules.proofs.NormalTextCall.{normalText-accepted, normal-accepts}
+use Rattle.rules.proofs.NormalTextCall.{normal-accepts}
 use Rattle.rules.proofs.RoundTrip.{same-reading}
 use Rattle.rules.proofs.Equal.{same-bytes}
 use Rattle.rangeset.specs.Views.{numberOf}

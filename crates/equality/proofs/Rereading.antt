@@ -2,7 +2,6 @@
 -- Assumes nothing.
 use Prim.Native.Nat.{ℕ, _/_, _<_, _≤_}
 use mathlib.Core.Path.{_≡_, refl, sym, ap, ap₂, _∙_}
-use mathlib.Core.Logic.{_⊎_, inl, inr}
 use mathlib.Core.Bool.{Bool, true, false}
 use mathlib.Core.List.{List}
 use native.Mathlib.Omega.{arith}
@@ -14,7 +13,7 @@ use Rattle.rules.specs.Expansion.{Compat}
 use Rattle.rules.specs.Rows.{placelessReading}
 use Rattle.rules.specs.NormalText.{spell}
 use Rattle.rules.specs.Answers.{Answer, accepted, refused, longest, reading, comparatorRows, identifierRows, readingCall, readingOutcome, written, comparatorWordsAfter, identifierWordsAfter, normalText, normalTextCall, normalTextOutcome, bytesAfter}
-use Rattle.rules.specs.Equality.{handedBack, Reread, reread, textRefused, normalRefused, readAgain, thenRead, rereadCall, neither, theText, itsNormalText, rereadOutcome, rereadBytesAfter, rereadComparatorsAfter, rereadIdentifiersAfter, Restores}
+use Rattle.rules.specs.Equality.{Reread, reread, textRefused, normalRefused, readAgain, thenRead, rereadCall, neither, rereadOutcome, rereadBytesAfter, rereadComparatorsAfter, rereadIdentifiersAfter, Restores}
 use Rattle.rules.proofs.RoundTrip.{round-trip}
 use Rattle.rules.proofs.ReadingCall.{reading-1, call-refused, call-5, call-6, call-accepts}
 use Rattle.rules.proofs.NormalTextCall.{normal-refused, normal-7, normal-accepts}

@@ -1,6 +1,6 @@
 -- When a text is accepted under a mode, and on which condition each of the refusals 1 to 4 is given.
 -- Assumes nothing.
-use mathlib.Core.Path.{_≡_, refl, sym, _∙_}
+use mathlib.Core.Path.{_≡_, refl}
 use mathlib.Core.Logic.{_↔_}
 use Prim.Native.Nat.{ℕ, _≤_, _<_}
 use native.Mathlib.Omega.{arith}
@@ -17,7 +17,7 @@ use Rattle.rules.specs.Parse.{Result, fail, ok, readText}
 use Rattle.rules.specs.Expansion.{Compat, Reading, expand}
 use Rattle.rules.specs.Answers.{Answer, accepted, refused, unless, mapAnswer, longest, rangeFits, readingFits, derived, derive, checked, reading}
 use Rattle.rules.proofs.Sound.{sound}
-use Rattle.rules.proofs.Complete.{complete, unambiguous}
+use Rattle.rules.proofs.Complete.{complete}
 
 -- no reading exists in the grammar
 abbrev pub Underivable : List ℕ → Type 0

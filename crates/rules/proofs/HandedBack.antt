@@ -12,7 +12,7 @@ use Rattle.rules.specs.Bytes.{pick}
 use Rattle.rules.specs.Expansion.{Compat, Reading}
 use Rattle.rules.specs.Rows.{comparatorWords, identifierWords, placelessReading}
 use Rattle.rules.specs.NormalText.{spell}
-use Rattle.rules.specs.Answers.{Answer, accepted, refused, unless, longest, reading, comparatorRows, identifierRows, readingCall, Outcome, readingOutcome, written, comparatorWordsAfter, identifierWordsAfter, normalText, normalTextCall, normalTextOutcome, bytesAfter}
+use Rattle.rules.specs.Answers.{Answer, accepted, refused, unless, longest, reading, comparatorRows, identifierRows, readingCall, readingOutcome, written, comparatorWordsAfter, identifierWordsAfter, normalText, normalTextCall, normalTextOutcome, bytesAfter}
 use Rattle.rules.specs.ReadBack.{readBack}
 use Rattle.rules.specs.Equality.{handedBack, readingHandedBack, textHandedBack}
 use Rattle.rules.proofs.Accepted.{reading-number}

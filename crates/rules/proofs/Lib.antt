@@ -5,6 +5,9 @@ pub mod Complete
 pub mod Accepted
 pub mod All
 pub mod Pieces
+pub mod Pairwise
+pub mod Exceeded
+pub mod HighBytes
 pub mod Raised
 pub mod Tables
 pub mod Unread
@@ -14,7 +17,6 @@ pub mod Places
 pub mod Nonempty
 pub mod ReadBackLaws
 pub mod Decimal
-pub mod Pairwise
 pub mod Spelling
 pub mod NormalTextCall
 pub mod RoundTrip

@@ -3,19 +3,20 @@
 -- Assumes nothing.
 use mathlib.Core.Logic.{_↔_, _⊎_}
 use mathlib.Core.Path.{_≡_}
-use Prim.Native.Nat.{ℕ, _≤_, _<_}
+use Prim.Native.Nat.{ℕ, _/_, _≤_, _<_}
 use mathlib.Core.Bool.{true, false}
 use mathlib.Core.List.{List, [], map}
 use lib.ListN.{length}
 use Rattle.rules.specs.Lists.{each, All, Some}
 use Rattle.rules.specs.Bytes.{largest}
-use Rattle.rules.specs.Syntax.{Range}
+use Rattle.rules.specs.Syntax.{Range, componentsRead}
 use Rattle.rules.specs.Grammar.{ReadsText}
 use Rattle.rules.specs.Parse.{ok, readText}
 use Rattle.rules.specs.Expansion.{Compat, Reading, Adds, pieces}
 use Rattle.rules.specs.Rows.{comparatorWords, identifierWords, allIdentifiers, InText, placelessReading}
 use Rattle.rules.specs.NormalText.{spell}
-use Rattle.rules.specs.Answers.{accepted, refused, longest, rangeFits, reading, normalText}
+use Rattle.rules.specs.Answers.{accepted, refused, longest, rangeFits, reading, normalText, readingCall, readingOutcome, normalTextCall, normalTextOutcome}
+use Rattle.rules.specs.Equality.{readingHandedBack, textHandedBack}
 use Rattle.rules.specs.Alike.{Alike, plain}
 use Rattle.rules.specs.ReadBack.{readBack}
 use Rattle.rules.specs.Plainform.{inputSheet, outputOf, outputGiven}
@@ -23,10 +24,13 @@ use Rattle.rules.specs.Examples.{benchSheet, worked, expected, answered,
 use Rattle.rules.proofs.Sound as Sound
 use Rattle.rules.proofs.Complete as Complete
 use Rattle.rules.proofs.Accepted as Accepted
+use Rattle.rules.proofs.HighBytes as HighBytes
+use Rattle.rules.proofs.Exceeded as Exceeded
 use Rattle.rules.proofs.Raised as Raised
 use Rattle.rules.proofs.Tables as Tables
 use Rattle.rules.proofs.Unread as Unread
 use Rattle.rules.proofs.RoundTrip as RoundTrip
+use Rattle.rules.proofs.HandedBack as HandedBack
 use Rattle.rules.proofs.ReadBackLaws as ReadBackLaws
 use Rattle.rules.proofs.Places as Places
 use Rattle.rules.specs.Version.{Version, placelessVersion, ReadsVersion, readVersion}
@@ -57,7 +61,19 @@ refused-1 = Accepted.refused-1
 pub refused-2 : (m : Compat) (t : List ℕ) → length t ≤ longest → (reading m t ≡ refused 2) ↔ ((rs : List Range) → ReadsText t rs → ⊥)
 refused-2 = Accepted.refused-2
 
--- ---- 2. Refusal 4 as 01 says it: where 1, 2 and 3 do not apply, it is given exactly when an expansion adds one to 18446744073709551615.
+-- "Bytes outside these forms, all at or above 80 hexadecimal included, have no reading": a text with such a byte is refused with 2, if not with 1.
+pub high-unread : (t : List ℕ) → Some (λ c. 0x80 ≤ c) t → (rs : List Range) → ReadsText t rs → ⊥
+high-unread = HighBytes.high-unread
+
+pub high-refused : (m : Compat) (t : List ℕ) → length t ≤ longest → Some (λ c. 0x80 ≤ c) t → reading m t ≡ refused 2
+high-refused = HighBytes.high-refused
+
+-- ---- 2. Refusals 3 and 4 as 01 says them. Where 1 and 2 do not apply, 3 is given exactly when a component that is read exceeds
+-- 18446744073709551615; where 3 does not apply either, 4 exactly when an expansion adds one to a component equal to it.
+
+pub refused-3 : (m : Compat) (t : List ℕ) (rs : List Range) → length t ≤ longest → ReadsText t rs
+    → (reading m t ≡ refused 3) ↔ Some (λ n. largest < n) (componentsRead rs)
+refused-3 = Exceeded.refused-3
 
 pub refused-4 : (m : Compat) (t : List ℕ) (rs : List Range) → length t ≤ longest → ReadsText t rs → each rangeFits rs ≡ true
     → (reading m t ≡ refused 4) ↔ Some (Adds largest) (pieces m rs)
@@ -100,6 +116,29 @@ round-trip = RoundTrip.round-trip
 -- So it is its own normal text.
 pub normal-normal : (m m′ : Compat) (t w : List ℕ) → normalText m t ≡ accepted w → length w ≤ longest → normalText m′ w ≡ accepted w
 normal-normal = RoundTrip.normal-normal
+
+-- The same of the two calls and of what they hand back, whatever the lent memory held. Where both accept a text, and the reading call is given
+-- the bytes that the normal text call handed back, at most 65,535, under any mode, with words enough for as many rows: it hands back the same
+-- counts and an equal reading.
+pub calls-round-trip : (m m′ : Compat) (t out words ids words′ ids′ : List ℕ)
+    → normalTextOutcome (normalTextCall m t (length out)) .refusal ≡ 0
+    → readingOutcome (readingCall m t (length words) (length ids)) .refusal ≡ 0
+    → length (textHandedBack m t out) ≤ longest
+    → readingOutcome (readingCall m t (length words) (length ids)) .comparators ≤ length words′ / 6
+    → readingOutcome (readingCall m t (length words) (length ids)) .identifiers ≤ length ids′ / 3
+    → (readingOutcome (readingCall m′ (textHandedBack m t out) (length words′) (length ids′)) ≡ readingOutcome (readingCall m t (length words) (length ids)))
+    × (placelessReading (readingHandedBack m′ (textHandedBack m t out) words′ ids′) ≡ placelessReading (readingHandedBack m t words ids))
+calls-round-trip = HandedBack.calls-round-trip
+
+-- Where both accept two texts, the readings handed back are equal exactly when the bytes handed back are.
+pub calls-equal : (m m′ : Compat) (t t′ out out′ words ids words′ ids′ : List ℕ)
+    → normalTextOutcome (normalTextCall m t (length out)) .refusal ≡ 0
+    → readingOutcome (readingCall m t (length words) (length ids)) .refusal ≡ 0
+    → normalTextOutcome (normalTextCall m′ t′ (length out′)) .refusal ≡ 0
+    → readingOutcome (readingCall m′ t′ (length words′) (length ids′)) .refusal ≡ 0
+    → (placelessReading (readingHandedBack m t words ids) ≡ placelessReading (readingHandedBack m′ t′ words′ ids′))
+    ↔ (textHandedBack m t out ≡ textHandedBack m′ t′ out′)
+calls-equal = HandedBack.calls-equal
 
 -- ---- 7. The words of the rows, with the text, determine the reading.
 

@@ -1,5 +1,5 @@
 -- Versions with their precedence, and range texts with the versions that they admit, worked by hand from 01 and from Semantic Versioning
--- 2.0.0. Theorems 10 and 11 hold the definitions to them.
+-- 2.0.0. Theorems 11 and 12 hold the definitions to them.
 -- Assumes nothing.
 use Prim.Native.String.{String}
 use mathlib.Core.Bool.{Bool, true, false}
