@@ -6,7 +6,7 @@ use native.Mathlib.Omega.{arith}
 use mathlib.Core.Logic.{inl, inr}
 use mathlib.Core.Bool.{Bool, true, _||_}
 use mathlib.Core.Option.{Option}
-use mathlib.Core.List.{List, [], _∷_}
+use mathlib.Core.List.{List, _∷_}
 use lib.Dec.{eqb, ltb, leb}
 use lib.ListN.{length}
 use borrow.Author.Tests.{eqb-true, leb-true, ltb-true}
@@ -14,7 +14,7 @@ use Rattle.rules.specs.Lists.{each, All, all[], all∷, Some, here, ther
 use Rattle.rules.specs.Bytes.{isSpace, isDigit, isNonzero, isLetter, isWord, isWild, isSign, within}
 use Rattle.rules.specs.Syntax.{Identifier, Partial, Prefix, Item, Range}
 use Rattle.rules.specs.Grammar as G
-use Rattle.rules.specs.Grammar.{OneOf, Run, Literal, Many, Spaces, Spaces₁, ReadsNumber, ReadsComponent, ReadsIdentifier, ReadsDotIdentifier, ReadsIdentifiers, ReadsQualifier, ReadsPartial, ReadsPrefix, ReadsItem, Gap, ReadsNext, Dash, ReadsRange, Separator, ReadsFurther, ReadsText}
+use Rattle.rules.specs.Grammar.{OneOf, Run, Literal, Many, Spaces, Spaces₁, ReadsNumber, ReadsComponent, ReadsIdentifier, ReadsDotIdentifier, ReadsQualifier, ReadsPartial, ReadsPrefix, ReadsItem, Gap, ReadsNext, ReadsRange, ReadsFurther, ReadsText}
 use Rattle.rules.specs.Expansion.{Compat}
 use Rattle.rules.specs.Answers.{refused, longest, reading}
 use Rattle.rules.proofs.Follows.{both, either}

@@ -44,4 +44,5 @@ pub mod PrecedenceLaws
 pub mod AdmissionLaws
 pub mod Bound
 pub mod PlainformLaws
+pub mod AdmitsLaws
 pub mod Theorems

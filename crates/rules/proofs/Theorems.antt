@@ -8,7 +8,7 @@ use mathlib.Core.Bool.{true, false}
 use mathlib.Core.List.{List, [], map}
 use lib.ListN.{length}
 use Rattle.rules.specs.Lists.{each, All, Some}
-use Rattle.rules.specs.Bytes.{largest}
+use Rattle.rules.specs.Bytes.{bytes, largest}
 use Rattle.rules.specs.Syntax.{Range, componentsRead}
 use Rattle.rules.specs.Grammar.{ReadsText}
 use Rattle.rules.specs.Parse.{ok, readText}
@@ -19,7 +19,7 @@ use Rattle.rules.specs.Answers.{accepted, refused, longest, rangeFits, r
 use Rattle.rules.specs.Equality.{readingHandedBack, textHandedBack}
 use Rattle.rules.specs.Alike.{Alike, plain}
 use Rattle.rules.specs.ReadBack.{readBack}
-use Rattle.rules.specs.Plainform.{inputSheet, outputOf, outputGiven}
+use Rattle.rules.specs.Plainform.{withoutNewline, modeLines, longestInput, plainform, inputSheet, outputOf, outputGiven}
 use Rattle.rules.specs.Examples.{benchSheet, worked, expected, answered, workedRows, rowsAnswered, rowsExpected}
 use Rattle.rules.proofs.Sound as Sound
 use Rattle.rules.proofs.Complete as Complete
@@ -36,12 +36,18 @@ use Rattle.rules.proofs.Places as Places
 use Rattle.rules.specs.Version.{Version, placelessVersion, ReadsVersion, readVersion}
 use Rattle.rules.specs.Precedence.{less, equal, greater, precedence}
 use Rattle.rules.specs.Admission.{admits, versionFits, versionOf, admissionCall}
+use Rattle.rules.specs.Admits.{verdictLine, answerLine, sessions, sessionOutput, sessionGiven, rangeLines, rangeLinesGiven}
 use Rattle.rules.specs.AdmissionExamples.{chain, comparisons, orderExpected, orderAnswered, admissions, admissionExpected, admissionAnswered}
+use Rattle.rules.specs.CallExamples.{readingCalls, readsAnswered, readsExpected, readingsBack, readingsExpected, parts, partAnswered, partExpected, normalTextCalls, writesAnswered, writesExpected, textsBack, textsExpected, rereadCalls, rereadsAnswered, rereadsExpected, textsCalls, comparesAnswered, comparesExpected, modesAnswered, modesExpected, verdictsAnswered, verdictsExpected, leftAnswered, leftExpected, identifiersAnswered, identifiersExpected}
+use Rattle.rules.specs.ByteExamples.{classes, membersOf, membersGiven}
+use Rattle.rules.specs.LimitExamples.{limits, limitIs, limitGiven}
 use Rattle.rules.proofs.VersionSound as VersionSound
 use Rattle.rules.proofs.VersionComplete as VersionComplete
 use Rattle.rules.proofs.VersionAccepted as VersionAccepted
 use Rattle.rules.proofs.PrecedenceLaws as PrecedenceLaws
 use Rattle.rules.proofs.AdmissionLaws as AdmissionLaws
+use Rattle.rules.proofs.PlainformLaws as PlainformLaws
+use Rattle.rules.proofs.AdmitsLaws as AdmitsLaws
 
 -- ---- 1. The function that reads is sound and complete for the grammar, and the grammar is unambiguous.
 
@@ -82,16 +88,17 @@ refused-4 = Raised.refused-4
 -- ---- 3. The bench sheet of 01.
 
 pub bench-sheet : map answered benchSheet ≡ map expected benchSheet
-bench-sheet = Tables.tables .0
+bench-sheet = Tables.tables .bench-sheet
 
--- ---- 4. Further worked examples: the misreadings that 01 shuts out, its edges, and examples of node-semver's README.
+-- ---- 4. Further worked examples: the misreadings that 01 shuts out, its edges, numbers that are too large, what is partly read, spaces, texts that
+-- have no reading, and examples of node-semver's README.
 
 pub worked-examples : map answered worked ≡ map expected worked
-worked-examples = Tables.tables .1
+worked-examples = Tables.tables .worked-examples
 
 -- and the words of four readings
 pub worked-rows : map rowsAnswered workedRows ≡ map rowsExpected workedRows
-worked-rows = Tables.tables .2
+worked-rows = Tables.tables .worked-rows
 
 -- ---- 5. Two accepted texts that are alike but for bytes behind a wildcard in the same partial have the same reading, places included.
 
@@ -153,7 +160,14 @@ places = Places.places
 -- ---- 9. The program `plainform`: 01's example, and further inputs.
 
 pub input-sheet : map outputOf inputSheet ≡ map outputGiven inputSheet
-input-sheet = Tables.tables .3
+input-sheet = Tables.tables .input-sheet
+
+-- "Over 4,096 bytes left: it prints the line `too long`. Otherwise two lines"
+pub too-long : (input : List ℕ) → longestInput < length (withoutNewline input) → plainform input ≡ bytes "too long\n"
+too-long = PlainformLaws.too-long
+
+pub two-lines : (input : List ℕ) → length (withoutNewline input) ≤ longestInput → plainform input ≡ modeLines (withoutNewline input)
+two-lines = PlainformLaws.two-lines
 
 -- ---- 10. Versions. The function that reads a version is sound and complete for the grammar of Semantic Versioning 2.0.0, which is unambiguous.
 
@@ -191,16 +205,16 @@ precedence-transitive = PrecedenceLaws.transitive PrecedenceLaws.precedence-orde
 
 -- the chain of Semantic Versioning 2.0.0's own example, and further comparisons
 pub precedence-chain : map orderAnswered chain ≡ map orderExpected chain
-precedence-chain = Tables.tables .4
+precedence-chain = Tables.tables .precedence-chain
 
 pub worked-comparisons : map orderAnswered comparisons ≡ map orderExpected comparisons
-worked-comparisons = Tables.tables .5
+worked-comparisons = Tables.tables .worked-comparisons
 
 -- ---- 12. The table of admissions: prereleases on both ends of a range, `||`, an empty range, `+` in ranges and in versions, kinds of
 -- identifiers, and the refusals 8 and 9 after 1 to 4.
 
 pub worked-admissions : map admissionAnswered admissions ≡ map admissionExpected admissions
-worked-admissions = Tables.tables .6
+worked-admissions = Tables.tables .worked-admissions
 
 -- ---- 13. Equal readings admit the same versions.
 
@@ -211,3 +225,62 @@ equal-admits = AdmissionLaws.admits-same
 pub normal-admits : (m m′ : Compat) (t s : List ℕ) (rs : Reading) → reading m t ≡ accepted rs → length (spell rs) ≤ longest
     → admissionCall m′ (spell rs) s ≡ admissionCall m t s
 normal-admits = AdmissionLaws.admission-normal
+
+-- ---- 14. The program `admits`: what it prints, and the line for a version by its length.
+
+pub admits-sessions : map sessionOutput sessions ≡ map sessionGiven sessions
+admits-sessions = Tables.tables .admits-sessions
+
+pub refused-ranges : rangeLines ≡ rangeLinesGiven
+refused-ranges = Tables.tables .refused-ranges
+
+pub long-line : (m : Compat) (t s : List ℕ) → longest < length s → answerLine m t s ≡ bytes "refused 8\n"
+long-line = AdmitsLaws.long-line
+
+pub short-line : (m : Compat) (t s : List ℕ) → length s ≤ longest → answerLine m t s ≡ verdictLine s (admissionCall m t s)
+short-line = AdmitsLaws.short-line
+
+-- ---- 15. The tables of calls: what each hands back, with all that it is lent before and after. The reading call, and the reading that a caller has of
+-- it; identifier bytes; the normal text call, and the bytes that a caller has of it; a normal text read again; two texts compared.
+
+pub reading-calls : map readsAnswered readingCalls ≡ map readsExpected readingCalls
+reading-calls = Tables.tables .reading-calls
+
+pub readings-back : readingsBack ≡ readingsExpected
+readings-back = Tables.tables .readings-back
+
+pub identifier-parts : map partAnswered parts ≡ map partExpected parts
+identifier-parts = Tables.tables .identifier-parts
+
+pub normal-text-calls : map writesAnswered normalTextCalls ≡ map writesExpected normalTextCalls
+normal-text-calls = Tables.tables .normal-text-calls
+
+pub texts-back : textsBack ≡ textsExpected
+texts-back = Tables.tables .texts-back
+
+pub reread-calls : map rereadsAnswered rereadCalls ≡ map rereadsExpected rereadCalls
+reread-calls = Tables.tables .reread-calls
+
+pub texts-calls : map comparesAnswered textsCalls ≡ map comparesExpected textsCalls
+texts-calls = Tables.tables .texts-calls
+
+-- modes and verdicts by their numbers, as they are exported; and what code looks at again
+pub modes : modesAnswered ≡ modesExpected
+modes = Tables.tables .modes
+
+pub verdicts : verdictsAnswered ≡ verdictsExpected
+verdicts = Tables.tables .verdicts
+
+pub numbers-left : leftAnswered ≡ leftExpected
+numbers-left = Tables.tables .numbers-left
+
+pub identifiers-found : identifiersAnswered ≡ identifiersExpected
+identifiers-found = Tables.tables .identifiers-found
+
+-- ---- 16. The classes over all 256 bytes, and the limits.
+
+pub byte-classes : map membersOf classes ≡ map membersGiven classes
+byte-classes = Tables.tables .byte-classes
+
+pub all-limits : map limitIs limits ≡ map limitGiven limits
+all-limits = Tables.tables .all-limits

@@ -77,6 +77,9 @@ ends =
     ∷ admission both "<2.0.0" "2.0.0" no
     ∷ admission both ">1.2.3-a" "1.2.3-a" no
     ∷ admission both ">1.2.3-a" "1.2.3-a.0" yes
+    ∷ admission both "=1.2.3" "1.2.2" no
+    ∷ admission both "=1.2.3" "1.2.4" no
+    ∷ admission both "<=1.2.3" "1.2.2" yes
     ∷ admission both "<=1.2.3-a" "1.2.3-a" yes
     ∷ admission both "<=1.2.3-a" "1.2.3-a.0" no
     ∷ admission both "1.2.3 - 2.3" "2.3.9" yes
@@ -128,6 +131,9 @@ refusals =
     ∷ admission both "" "1.0.x" (refused 8)
     ∷ admission both "" "01.0.0" (refused 8)
     ∷ admission both "" "v1.0.0" (refused 8)
+    ∷ admission both "" "=1.0.0" (refused 8)
+    ∷ admission both "" "1. 0.0" (refused 8)
+    ∷ admission both "" "1.0.0\n" (refused 8)
     ∷ admission both "" " 1.0.0" (refused 8)
     ∷ admission both "" "1.0.0 " (refused 8)
     ∷ admission both "" "1.0.0-" (refused 8)
