@@ -13,7 +13,7 @@ use Rattle.rules.specs.Expansion.{Compat}
 use Rattle.rules.specs.Rows.{placelessReading}
 use Rattle.rules.specs.NormalText.{spell}
 use Rattle.rules.specs.Answers.{Answer, accepted, refused, longest, reading, comparatorRows, identifierRows, readingCall, readingOutcome, written, comparatorWordsAfter, identifierWordsAfter, normalText, normalTextCall, normalTextOutcome, bytesAfter}
-use Rattle.rules.specs.Equality.{Reread, reread, textRefused, normalRefused, readAgain, thenRead, rereadCall, neither, rereadOutcome, rereadBytesAfter, rereadComparatorsAfter, rereadIdentifiersAfter, Restores}
+use Rattle.rules.specs.Equality.{Reread, reread, textRefused, normalRefused, readAgain, thenRead, rereadCall, neither, theText, itsNormalText, rereadOutcome, rereadBytesAfter, rereadComparatorsAfter, rereadIdentifiersAfter, Restores}
 use Rattle.rules.proofs.RoundTrip.{round-trip}
 use Rattle.rules.proofs.ReadingCall.{reading-1, call-refused, call-5, call-6, call-accepts}
 use Rattle.rules.proofs.NormalTextCall.{normal-refused, normal-7, normal-accepts}
@@ -188,24 +188,23 @@ record Rereads (m m′ : Compat) (s : List ℕ) (lent cw iw : ℕ) : Type 0 wher
   pub reads : readingCall m′ text cw iw ≡ accepted reading
   pub whole : rereadCall m m′ s lent cw iw ≡ reread text reading
 
-refused-text : (a : Reread) (n : ℕ) → a ≡ textRefused n → rereadOutcome a .refuses ≡ neither → ⊥
-unfolding rereadOutcome
-refused-text a n e z = let x = sym (ap (λ a. rereadOutcome a .refuses) e) ∙ z in let y : _≡_ {A = ℕ} 0 1 = cc in omega arith
+pub text-apart : theText ≡ neither → ⊥
+text-apart z = let y : _≡_ {A = ℕ} 0 1 = cc in omega arith
 
-refused-normal : (a : Reread) (n : ℕ) → a ≡ normalRefused n → rereadOutcome a .refuses ≡ neither → ⊥
-unfolding rereadOutcome
-refused-normal a n e z = let x = sym (ap (λ a. rereadOutcome a .refuses) e) ∙ z in let y : _≡_ {A = ℕ} 0 1 = cc in omega arith
+pub normal-apart : itsNormalText ≡ neither → ⊥
+normal-apart z = let y : _≡_ {A = ℕ} 0 1 = cc in omega arith
 
 rereads : (m m′ : Compat) (s : List ℕ) (lent cw iw : ℕ) → rereadOutcome (rereadCall m m′ s lent cw iw) .refuses ≡ neither → Rereads m m′ s lent cw iw
+unfolding rereadOutcome
 rereads m m′ s lent cw iw z = go (normalTextCall m s lent) refl
   where
     read : (w : List ℕ) → normalTextCall m s lent ≡ accepted w → (a : Answer E.Reading) → readingCall m′ w cw iw ≡ a → Rereads m m′ s lent cw iw
     read w e (accepted rs) q = record { text = w; reading = rs; normal = e; reads = q; whole = then-accepted m m′ s lent cw iw w e rs q }
-    read w e (refused n) q = absurd (refused-normal _ n (then-refused m m′ s lent cw iw w e n q) z)
+    read w e (refused n) q = absurd (normal-apart (sym (ap (λ a. rereadOutcome a .refuses) (then-refused m m′ s lent cw iw w e n q)) ∙ z))
 
     go : (a : Answer (List ℕ)) → normalTextCall m s lent ≡ a → Rereads m m′ s lent cw iw
     go (accepted w) e = read w e (readingCall m′ w cw iw) refl
-    go (refused n) e = absurd (refused-text _ n (text-refused m m′ s lent cw iw n e) z)
+    go (refused n) e = absurd (text-apart (sym (ap (λ a. rereadOutcome a .refuses) (text-refused m m′ s lent cw iw n e)) ∙ z))
 
 module _ (m : Compat) (s out words ids : List ℕ) (r : C.Reread) (d : Decides m s (length out) (length words) (length ids) (rereadOf r)) where
   abbrev call : Compat → Reread
@@ -220,59 +219,33 @@ module _ (m : Compat) (s out words ids : List ℕ) (r : C.Reread) (d : Decides m
   handed m′ out′ words′ ids′ f g h =
       rw (ap (λ x. x .outcome) (reread-result m′), f, g, h) (restored m m′ s out words ids (call m′) refl)
 
-  -- a refused call leaves all as it was
-  module _ (z : rereadOf r .refuses ≡ neither → ⊥) (m′ : Compat) where
-    untouched : (out ≡ rereadBytesAfter (call m′) out) × (words ≡ rereadComparatorsAfter (call m′) words) × (ids ≡ rereadIdentifiersAfter (call m′) ids)
+  -- a refused call, of either text, leaves all as it was
+  module _ (x : C.Reread) (q : r ≡ x) (z : rereadOf x .refuses ≡ neither → ⊥) where
+    pub refused-result : (m′ : Compat) → rereadOf x ≡ rereadOutcome (call m′)
+    refused-result m′ = ap rereadOf (sym q) ∙ reread-result m′
+
+    untouched : (m′ : Compat)
+        → (out ≡ rereadBytesAfter (call m′) out) × (words ≡ rereadComparatorsAfter (call m′) words) × (ids ≡ rereadIdentifiersAfter (call m′) ids)
     unfolding rereadOutcome rereadBytesAfter rereadComparatorsAfter rereadIdentifiersAfter
-    untouched = go (call m′) refl
+    untouched m′ = go (call m′) refl
       where
         go : (a : Reread) → call m′ ≡ a
             → (out ≡ rereadBytesAfter (call m′) out) × (words ≡ rereadComparatorsAfter (call m′) words) × (ids ≡ rereadIdentifiersAfter (call m′) ids)
-        go (reread w rs) e = absurd (z (ap (λ x. x .refuses) (reread-result m′ ∙ ap rereadOutcome e)))
+        go (reread w rs) e = absurd (z (ap (λ o. o .refuses) (refused-result m′ ∙ ap rereadOutcome e)))
         go (textRefused n) e = rw e (refl, refl, refl)
         go (normalRefused n) e = rw e (refl, refl, refl)
 
-    unhanded : Restores m s (length out) (length words) (length ids) (rereadOf r .outcome) out words ids
-    unhanded = handed m′ out words ids (untouched .0) (untouched .1) (untouched .2)
+    pub refused-bytes : (m′ : Compat) → out ≡ rereadBytesAfter (call m′) out
+    refused-bytes m′ = untouched m′ .0
 
-  module _ (y : Refusal) where
-    module _ (q : r ≡ W.TextRefused y) where
-      of-text : rereadOf r .refuses ≡ neither → ⊥
-      of-text z = let x = sym (ap (λ r. rereadOf r .refuses) q) ∙ z in let a : _≡_ {A = ℕ} 0 1 = cc in omega arith
+    pub refused-words : (m′ : Compat) → words ≡ rereadComparatorsAfter (call m′) words
+    refused-words m′ = untouched m′ .1
 
-      pub text-result : (m′ : Compat) → rereadOf (W.TextRefused y) ≡ rereadOutcome (call m′)
-      text-result m′ = ap rereadOf (sym q) ∙ reread-result m′
+    pub refused-ids : (m′ : Compat) → ids ≡ rereadIdentifiersAfter (call m′) ids
+    refused-ids m′ = untouched m′ .2
 
-      pub text-bytes : (m′ : Compat) → out ≡ rereadBytesAfter (call m′) out
-      text-bytes m′ = untouched of-text m′ .0
-
-      pub text-words : (m′ : Compat) → words ≡ rereadComparatorsAfter (call m′) words
-      text-words m′ = untouched of-text m′ .1
-
-      pub text-ids : (m′ : Compat) → ids ≡ rereadIdentifiersAfter (call m′) ids
-      text-ids m′ = untouched of-text m′ .2
-
-      pub text-equal : Restores m s (length out) (length words) (length ids) (rereadOf (W.TextRefused y) .outcome) out words ids
-      text-equal = rw q at (unhanded of-text m)
-
-    module _ (q : r ≡ W.NormalRefused y) where
-      of-normal : rereadOf r .refuses ≡ neither → ⊥
-      of-normal z = let x = sym (ap (λ r. rereadOf r .refuses) q) ∙ z in let a : _≡_ {A = ℕ} 0 1 = cc in omega arith
-
-      pub normal-result : (m′ : Compat) → rereadOf (W.NormalRefused y) ≡ rereadOutcome (call m′)
-      normal-result m′ = ap rereadOf (sym q) ∙ reread-result m′
-
-      pub normal-bytes : (m′ : Compat) → out ≡ rereadBytesAfter (call m′) out
-      normal-bytes m′ = untouched of-normal m′ .0
-
-      pub normal-words : (m′ : Compat) → words ≡ rereadComparatorsAfter (call m′) words
-      normal-words m′ = untouched of-normal m′ .1
-
-      pub normal-ids : (m′ : Compat) → ids ≡ rereadIdentifiersAfter (call m′) ids
-      normal-ids m′ = untouched of-normal m′ .2
-
-      pub normal-equal : Restores m s (length out) (length words) (length ids) (rereadOf (W.NormalRefused y) .outcome) out words ids
-      normal-equal = rw q at (unhanded of-normal m)
+    pub refused-equal : Restores m s (length out) (length words) (length ids) (rereadOf x .outcome) out words ids
+    refused-equal = rw q at (handed m out words ids (untouched m .0) (untouched m .1) (untouched m .2))
 
   -- what an accepted call has written
   module _ (c : Counts) (q : r ≡ W.Accepted c) where
@@ -324,8 +297,6 @@ module _ (m : Compat) (s out words ids : List ℕ) (r : C.Reread) (d : Decides m
             → Restores m s (length out) (length words) (length ids) (rereadOf (W.Accepted c) .outcome) out′ words′ ids′
         reads-equal words′ h ids′ j = rw q at (handed m′ out′ words′ ids′ writes-bytes (reads-words words′ h) (reads-ids ids′ j))
 
-pub ruleset refusing-text = (text-result, text-bytes, text-words, text-ids, text-equal)
-
-pub ruleset refusing-normal = (normal-result, normal-bytes, normal-words, normal-ids, normal-equal)
+pub ruleset refusing = (refused-result, refused-bytes, refused-words, refused-ids, refused-equal, text-apart, normal-apart)
 
 pub ruleset rereading = (reads-result, writes-fits, prefix-within, prefix-length, writes-bytes, reads-words, reads-ids, reads-equal)

@@ -1,4 +1,4 @@
-use Rattle.equality.proofs.Rereading.{refusing-text, refusing-normal, rereading}
+use Rattle.equality.proofs.Rereading.{refusing, rereading}
 use borrow.Author.Needs.{needs}
 use Rattle.equality.proofs.read_normal_text.Statement.{statement}
 use Rattle.equality.proofs.read_normal_text.Tie as tie
@@ -19,5 +19,5 @@ read-normal-text-spec =
     (λ c. search (rereading, needs))
     (λ c. search (rereading, needs))
     (λ c. (search (rereading, needs), (search (rereading, needs), (search (rereading, needs), (search (rereading, needs), search (rereading, needs))))))
-    (λ c. (search (refusing-text, needs), (search (refusing-text, needs), (search (refusing-text, needs), (search (refusing-text, needs), search (refusing-text, needs))))))
-    (λ c. (search (refusing-normal, needs), (search (refusing-normal, needs), (search (refusing-normal, needs), (search (refusing-normal, needs), search (refusing-normal, needs)))))))
+    (λ c. (search (refusing, needs), (search (refusing, needs), (search (refusing, needs), (search (refusing, needs), search (refusing, needs))))))
+    (λ c. (search (refusing, needs), (search (refusing, needs), (search (refusing, needs), (search (refusing, needs), search (refusing, needs)))))))
