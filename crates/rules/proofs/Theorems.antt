@@ -20,7 +20,7 @@ use Rattle.rules.specs.Equality.{readingHandedBack, textHandedBack}
 use Rattle.rules.specs.Alike.{Alike, plain}
 use Rattle.rules.specs.ReadBack.{readBack}
 use Rattle.rules.specs.Plainform.{withoutNewline, modeLines, longestInput, plainform, inputSheet, outputOf, outputGiven}
-use Rattle.rules.specs.Examples.{benchSheet, worked, expected, answered, workedRows, rowsAnswered, rowsExpected}
+use Rattle.rules.specs.Examples.{benchSheet, worked, expected, answered, workedRows, said, given, rowsAnswered, rowsExpected}
 use Rattle.rules.proofs.Sound as Sound
 use Rattle.rules.proofs.Complete as Complete
 use Rattle.rules.proofs.Accepted as Accepted
@@ -36,11 +36,11 @@ use Rattle.rules.proofs.Places as Places
 use Rattle.rules.specs.Version.{Version, placelessVersion, ReadsVersion, readVersion}
 use Rattle.rules.specs.Precedence.{less, equal, greater, precedence}
 use Rattle.rules.specs.Admission.{admits, versionFits, versionOf, admissionCall}
-use Rattle.rules.specs.Admits.{verdictLine, answerLine, sessions, sessionOutput, sessionGiven, rangeLines, rangeLinesGiven}
+use Rattle.rules.specs.Admits.{verdictLine, answerLine, sessions, sessionOutput, sessionGiven, rangeLines}
 use Rattle.rules.specs.AdmissionExamples.{chain, comparisons, orderExpected, orderAnswered, admissions, admissionExpected, admissionAnswered}
-use Rattle.rules.specs.CallExamples.{readingCalls, readsAnswered, readsExpected, readingsBack, readingsExpected, parts, partAnswered, partExpected, normalTextCalls, writesAnswered, writesExpected, textsBack, textsExpected, rereadCalls, rereadsAnswered, rereadsExpected, textsCalls, comparesAnswered, comparesExpected, modesAnswered, modesExpected, verdictsAnswered, verdictsExpected, leftAnswered, leftExpected, identifiersAnswered, identifiersExpected}
+use Rattle.rules.specs.CallExamples.{readingCalls, readsAnswered, readsExpected, readings, parts, partAnswered, partExpected, normalTextCalls, writesAnswered, writesExpected, normalTexts, rereadCalls, rereadsAnswered, rereadsExpected, textsCalls, comparesAnswered, comparesExpected, modes, verdicts, lefts, identifiers}
 use Rattle.rules.specs.ByteExamples.{classes, membersOf, membersGiven}
-use Rattle.rules.specs.LimitExamples.{limits, limitIs, limitGiven}
+use Rattle.rules.specs.LimitExamples.{limits}
 use Rattle.rules.proofs.VersionSound as VersionSound
 use Rattle.rules.proofs.VersionComplete as VersionComplete
 use Rattle.rules.proofs.VersionAccepted as VersionAccepted
@@ -231,7 +231,7 @@ normal-admits = AdmissionLaws.admission-normal
 pub admits-sessions : map sessionOutput sessions ≡ map sessionGiven sessions
 admits-sessions = Tables.tables .admits-sessions
 
-pub refused-ranges : rangeLines ≡ rangeLinesGiven
+pub refused-ranges : map said rangeLines ≡ map given rangeLines
 refused-ranges = Tables.tables .refused-ranges
 
 pub long-line : (m : Compat) (t s : List ℕ) → longest < length s → answerLine m t s ≡ bytes "refused 8\n"
@@ -246,8 +246,8 @@ short-line = AdmitsLaws.short-line
 pub reading-calls : map readsAnswered readingCalls ≡ map readsExpected readingCalls
 reading-calls = Tables.tables .reading-calls
 
-pub readings-back : readingsBack ≡ readingsExpected
-readings-back = Tables.tables .readings-back
+pub handed-readings : map said readings ≡ map given readings
+handed-readings = Tables.tables .handed-readings
 
 pub identifier-parts : map partAnswered parts ≡ map partExpected parts
 identifier-parts = Tables.tables .identifier-parts
@@ -255,8 +255,8 @@ identifier-parts = Tables.tables .identifier-parts
 pub normal-text-calls : map writesAnswered normalTextCalls ≡ map writesExpected normalTextCalls
 normal-text-calls = Tables.tables .normal-text-calls
 
-pub texts-back : textsBack ≡ textsExpected
-texts-back = Tables.tables .texts-back
+pub handed-texts : map said normalTexts ≡ map given normalTexts
+handed-texts = Tables.tables .handed-texts
 
 pub reread-calls : map rereadsAnswered rereadCalls ≡ map rereadsExpected rereadCalls
 reread-calls = Tables.tables .reread-calls
@@ -265,16 +265,16 @@ pub texts-calls : map comparesAnswered textsCalls ≡ map comparesExpected texts
 texts-calls = Tables.tables .texts-calls
 
 -- modes and verdicts by their numbers, as they are exported; and what code looks at again
-pub modes : modesAnswered ≡ modesExpected
-modes = Tables.tables .modes
+pub mode-numbers : map said modes ≡ map given modes
+mode-numbers = Tables.tables .mode-numbers
 
-pub verdicts : verdictsAnswered ≡ verdictsExpected
-verdicts = Tables.tables .verdicts
+pub verdict-numbers : map said verdicts ≡ map given verdicts
+verdict-numbers = Tables.tables .verdict-numbers
 
-pub numbers-left : leftAnswered ≡ leftExpected
+pub numbers-left : map said lefts ≡ map given lefts
 numbers-left = Tables.tables .numbers-left
 
-pub identifiers-found : identifiersAnswered ≡ identifiersExpected
+pub identifiers-found : map said identifiers ≡ map given identifiers
 identifiers-found = Tables.tables .identifiers-found
 
 -- ---- 16. The classes over all 256 bytes, and the limits.
@@ -282,5 +282,5 @@ identifiers-found = Tables.tables .identifiers-found
 pub byte-classes : map membersOf classes ≡ map membersGiven classes
 byte-classes = Tables.tables .byte-classes
 
-pub all-limits : map limitIs limits ≡ map limitGiven limits
+pub all-limits : map said limits ≡ map given limits
 all-limits = Tables.tables .all-limits

@@ -96,9 +96,7 @@ abbrev pub sessionGiven : Session → List ℕ
 sessionGiven (session m t i o) = bytes o
 
 -- the line for a range, where it is refused
-unfoldable pub rangeLines : List (List ℕ)
+unfoldable pub rangeLines : List (List ℕ × List ℕ)
 unfolding refusedRange
-rangeLines = map (λ t. refusedRange npm (bytes t)) ("1,2" ∷ "18446744073709551615" ∷ "1.2.3" ∷ [])
-
-abbrev pub rangeLinesGiven : List (List ℕ)
-rangeLinesGiven = bytes "refused 2\n" ∷ bytes "refused 4\n" ∷ [] ∷ []
+rangeLines =
+    (refusedRange npm (bytes "1,2"), bytes "refused 2\n") ∷ (refusedRange npm (bytes "18446744073709551615"), bytes "refused 4\n") ∷ (refusedRange npm (bytes "1.2.3"), []) ∷ []

@@ -4,7 +4,7 @@
 use Prim.Native.Nat.{ℕ, zero, suc}
 use Prim.Native.String.{String}
 use mathlib.Core.Bool.{Bool, true, false}
-use mathlib.Core.List.{List, [], _∷_, map}
+use mathlib.Core.List.{List, [], _∷_}
 use lib.ListN.{length}
 use Rattle.rules.specs.Bytes.{bytes}
 use Rattle.rules.specs.Syntax.{Identifier, number, text}
@@ -63,13 +63,19 @@ readsAnswered (reads m t cws iws o cws′ iws′) =
 abbrev pub readsExpected : Reads → Outcome × List ℕ × List ℕ
 readsExpected (reads m t cws iws o cws′ iws′) = (o, cws′, iws′)
 
--- the readings that are handed back of some texts, each by its normal text; of a refused one, nothing
-unfoldable pub readingsBack : List (List ℕ)
+-- the reading that is handed back where 27 words and 10 are lent, spelled; a refused call hands back nothing
+unfoldable pub readOf : String → List ℕ
 unfolding readingHandedBack spell
-readingsBack = map (λ t. spell (readingHandedBack npm (bytes t) (nines 27) (nines 10))) ("^1.2.3-a.0 || <2" ∷ "1.2.3-a.b - 2.0.0+7 || x || <3" ∷ "1.2.3-a.b.c.d" ∷ "1,2" ∷ [])
+readOf t = spell (readingHandedBack npm (bytes t) (nines 27) (nines 10))
 
-abbrev pub readingsExpected : List (List ℕ)
-readingsExpected = bytes ">=1.2.3-a.0 <2.0.0 || <2.0.0" ∷ bytes ">=1.2.3-a.b <=2.0.0-7 || >=0.0.0 || <3.0.0" ∷ [] ∷ [] ∷ []
+unfoldable pub readings : List (List ℕ × List ℕ)
+unfolding readOf
+readings =
+    (readOf "^1.2.3-a.0 || <2", bytes ">=1.2.3-a.0 <2.0.0 || <2.0.0")
+    ∷ (readOf "1.2.3-a.b - 2.0.0+7 || x || <3", bytes ">=1.2.3-a.b <=2.0.0-7 || >=0.0.0 || <3.0.0")
+    ∷ (readOf "1.2.3-a.b.c.d", [])
+    ∷ (readOf "1,2", [])
+    ∷ []
 
 -- ---- the identifier bytes call
 
@@ -112,13 +118,14 @@ writesAnswered (writes m t out n k out′) = let a = normalTextCall m (bytes t) 
 abbrev pub writesExpected : Writes → Length × List ℕ
 writesExpected (writes m t out n k out′) = (record { refusal = n; length = k }, bytes out′)
 
--- the bytes that are handed back
-unfoldable pub textsBack : List (List ℕ)
+-- the bytes that are handed back where seven are lent
+unfoldable pub writtenOf : String → List ℕ
 unfolding textHandedBack
-textsBack = map (λ t. textHandedBack npm (bytes t) (bytes "_______")) ("1.2.3" ∷ "1.2.3-a" ∷ "1,2" ∷ [])
+writtenOf t = textHandedBack npm (bytes t) (bytes "_______")
 
-abbrev pub textsExpected : List (List ℕ)
-textsExpected = bytes "=1.2.3" ∷ [] ∷ [] ∷ []
+unfoldable pub normalTexts : List (List ℕ × List ℕ)
+unfolding writtenOf
+normalTexts = (writtenOf "1.2.3", bytes "=1.2.3") ∷ (writtenOf "1.2.3-a", []) ∷ (writtenOf "1,2", []) ∷ []
 
 -- ---- a normal text, read again
 
@@ -175,33 +182,44 @@ comparesExpected (compares m t a m′ t′ b x a′ b′) = (x, bytes a′, byte
 
 -- ---- the calls as they are exported
 
--- a mode by its number, and a yes or no by its number
-unfoldable pub modesAnswered : List (Answer Compat)
+-- a mode by its number, and a call under it
+unfoldable pub modes : List (Answer Compat × Answer Compat)
 unfolding under
-modesAnswered = modeOf 0 ∷ modeOf 1 ∷ modeOf 2 ∷ modeOf 255 ∷ under 1 (λ m. accepted m) ∷ under 1 (λ m. refused 3) ∷ under 2 (λ m. refused 3) ∷ []
+modes =
+    (modeOf 0, accepted cargo)
+    ∷ (modeOf 1, accepted npm)
+    ∷ (modeOf 2, refused 255)
+    ∷ (modeOf 255, refused 255)
+    ∷ (under 0 (λ m. accepted m), accepted cargo)
+    ∷ (under 1 (λ m. accepted m), accepted npm)
+    ∷ (under 1 (λ m. refused 3), refused 3)
+    ∷ (under 2 (λ m. refused 3), refused 255)
+    ∷ []
 
-abbrev pub modesExpected : List (Answer Compat)
-modesExpected = accepted cargo ∷ accepted npm ∷ refused 255 ∷ refused 255 ∷ accepted npm ∷ refused 3 ∷ refused 255 ∷ []
-
-unfoldable pub verdictsAnswered : List Verdict
+-- yes and no by their numbers
+unfoldable pub verdicts : List (Verdict × Verdict)
 unfolding verdict
-verdictsAnswered = map verdict (accepted true ∷ accepted false ∷ refused 8 ∷ [])
-
-abbrev pub verdictsExpected : List Verdict
-verdictsExpected = record { refusal = 0; admitted = 1 } ∷ record { refusal = 0; admitted = 0 } ∷ record { refusal = 8; admitted = 0 } ∷ []
+verdicts =
+    (verdict (accepted true), record { refusal = 0; admitted = 1 })
+    ∷ (verdict (accepted false), record { refusal = 0; admitted = 0 })
+    ∷ (verdict (refused 8), record { refusal = 8; admitted = 0 })
+    ∷ []
 
 -- ---- what code looks at again
 
--- how many bytes are left behind a number, and the identifiers that a text begins with: a range's, and a version's
-abbrev pub leftAnswered : List ℕ
-leftAnswered = map (λ t. leftOf (bytes t) (readNumber (bytes t))) ("12ab" ∷ "012" ∷ "ab" ∷ [])
+-- how many bytes are left behind a number
+abbrev pub leftBehind : String → ℕ
+leftBehind t = leftOf (bytes t) (readNumber (bytes t))
 
-abbrev pub leftExpected : List ℕ
-leftExpected = 2 ∷ 2 ∷ 2 ∷ []
+unfoldable pub lefts : List (ℕ × ℕ)
+lefts = (leftBehind "12ab", 2) ∷ (leftBehind "012", 2) ∷ (leftBehind "ab", 2) ∷ (leftBehind "", 0) ∷ []
 
-unfoldable pub identifiersAnswered : List (List Identifier)
+-- the identifiers that a text begins with: a range's, and a version's
+unfoldable pub identifiers : List (List Identifier × List Identifier)
 unfolding foundIn versionIdentifiersIn
-identifiersAnswered = foundIn (bytes "a.1 x") ∷ foundIn (bytes "1a") ∷ versionIdentifiersIn (bytes "a.1+x") ∷ versionIdentifiersIn (bytes "1a") ∷ []
-
-abbrev pub identifiersExpected : List (List Identifier)
-identifiersExpected = (text 5 (bytes "a") ∷ number 1 ∷ []) ∷ (number 1 ∷ []) ∷ (text 5 (bytes "a") ∷ number 1 ∷ []) ∷ (text 2 (bytes "1a") ∷ []) ∷ []
+identifiers =
+    (foundIn (bytes "a.1 x"), text 5 (bytes "a") ∷ number 1 ∷ [])
+    ∷ (foundIn (bytes "1a"), number 1 ∷ [])
+    ∷ (versionIdentifiersIn (bytes "a.1+x"), text 5 (bytes "a") ∷ number 1 ∷ [])
+    ∷ (versionIdentifiersIn (bytes "1a"), text 2 (bytes "1a") ∷ [])
+    ∷ []

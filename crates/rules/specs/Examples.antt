@@ -252,6 +252,13 @@ workedRows =
 
 -- ---- what a table says, and what the definitions say
 
+-- of a row that has both: what the definitions say, and what the table does
+abbrev pub said : {A : Type 0} → A × A → A
+said row = row .0
+
+abbrev pub given : {A : Type 0} → A × A → A
+given row = row .1
+
 abbrev pub expected : Example → List (Answer (List ℕ))
 expected (example ms t a) = map (λ m. mapAnswer bytes a) ms
 

@@ -11,9 +11,3 @@ use Rattle.rules.specs.Admits.{verdictRoom}
 -- a component; a range text or a version; an input of `plainform`, its normal text, and the bytes lent for both lines; the bytes that `admits` lends
 unfoldable pub limits : List (ℕ × ℕ)
 limits = (largest, 18446744073709551615) ∷ (longest, 65535) ∷ (longestInput, 4096) ∷ (longestNormal, 32775) ∷ (room, 65562) ∷ (verdictRoom, 65567) ∷ []
-
-abbrev pub limitIs : ℕ × ℕ → ℕ
-limitIs row = row .0
-
-abbrev pub limitGiven : ℕ × ℕ → ℕ
-limitGiven row = row .1
