@@ -82,6 +82,6 @@ partialsOf nothing = []
 partialsOf (items i is) = map partialOf (i ∷ is)
 partialsOf (hyphen p q) = p ∷ q ∷ []
 
--- all components that are read, which theorem 2 says of refusal 3
+-- all components that are read: refusal 3 is given where one of them is too large (theorem 2)
 abbrev pub componentsRead : List Range → List ℕ
 componentsRead rs = concat (map componentsOf (concat (map partialsOf rs)))
