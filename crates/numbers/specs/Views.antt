@@ -29,7 +29,7 @@ abbrev pub lengthIs : ℕ → ℕ → Length
 lengthIs n l = record { refusal = n; length = l }
 
 abbrev pub verdictIs : ℕ → ℕ → Verdict
-verdictIs n a = record { refusal = n; yes = a }
+verdictIs n a = record { refusal = n; admitted = a }
 
 abbrev pub partIs : ℕ → ℕ → Part
 partIs a k = record { from = a; size = k }

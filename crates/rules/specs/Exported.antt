@@ -29,12 +29,12 @@ underBoth k l f = andThen (modesOf k l) (λ ms. f (ms .0) (ms .1))
 -- "Yes or no": the number of the refusal, and 1 for yes and 0 for no; a refusal has neither
 pub record Verdict : Type 0 where
   pub refusal : ℕ
-  pub yes : ℕ
+  pub admitted : ℕ
 
 unfoldable pub verdict : Answer Bool → Verdict
-verdict (accepted true) = record { refusal = 0; yes = 1 }
-verdict (accepted false) = record { refusal = 0; yes = 0 }
-verdict (refused n) = record { refusal = n; yes = 0 }
+verdict (accepted true) = record { refusal = 0; admitted = 1 }
+verdict (accepted false) = record { refusal = 0; admitted = 0 }
+verdict (refused n) = record { refusal = n; admitted = 0 }
 
 -- "The identifier's bytes are handed back as that part of the caller's text": as where the part begins and how many bytes it has; the empty part
 -- begins at 0
