@@ -1,68 +1,28 @@
--- The calls under the mode with a number: what a function that is exported hands back, where the number is a mode and where it is none.
+-- The calls under the mode with a number: what a function that is exported hands back, where the number is a mode and where it is none; and the
+-- identifier bytes as a place and a size.
 -- Assumes nothing.
-use Prim.Native.Nat.{ℕ}
+use Prim.Native.Nat.{ℕ, zero, suc, _+_}
 use mathlib.Core.Path.{_≡_, refl, sym, ap, _∙_}
 use mathlib.Core.Bool.{Bool, true, false}
-use mathlib.Core.List.{List}
-use borrow.Author.Tests.{ne-eqb}
+use mathlib.Core.List.{List, [], _∷_}
+use native.Mathlib.Omega.{arith}
+use lib.Dec.{leb}
+use lib.ListN.{length, take, drop}
+use Rattle.rules.specs.Bytes.{pick}
 use Rattle.rules.specs.Expansion as E
-use Rattle.rules.specs.Answers.{Answer, accepted, refused, readingOutcome, written, comparatorWordsAfter, identifierWordsAfter, normalTextOutcome, bytesAfter, Outcome, Length}
-use Rattle.rules.specs.Exported.{modeOf, under, Verdict, verdict}
+use Rattle.rules.specs.Answers.{Answer, refused, readingOutcome, written, comparatorWordsAfter, identifierWordsAfter, identifierBytes, normalTextOutcome, bytesAfter, Outcome, Length}
+use Rattle.rules.specs.Exported.{modeOf, under, Verdict, verdict, partAt}
 use Rattle.range.specs.Views.{compatOf}
 use Rattle.range.specs.declared.Compat.{Compat}
-use Rattle.range.specs.declared.Compat.the-variants as Compat
-use Rattle.rangeset.specs.Views.{numberOf, outcomeOf}
-use Rattle.rangeset.specs.declared.Refusal.{Refusal}
+use Rattle.rangeset.specs.Views.{outcomeOf}
 use Rattle.rangeset.specs.declared.Reading.{Reading}
-use Rattle.rangeset.specs.declared.Reading.the-variants as R
 use Rattle.normal_text.specs.Views.{lengthOf}
 use Rattle.normal_text.specs.declared.NormalText.{NormalText}
-use Rattle.normal_text.specs.declared.NormalText.the-variants as T
 use Rattle.admission.specs.Views.{answerOf}
 use Rattle.admission.specs.declared.Admission.{Admission}
-use Rattle.admission.specs.declared.Admission.the-variants as Admissions
-use Rattle.maluwesi.specs.Views.{modeIs, outcome, lengthIs, verdictIs}
-use Rattle.maluwesi.specs.declared.Mode.{Mode}
-use Rattle.maluwesi.specs.declared.Mode.the-variants as Modes
-
--- ---- the mode
-
-pub mode-cargo : (k : ℕ) → k ≡ 0 → modeIs (Modes.Compat Compat.Cargo) ≡ modeOf k
-mode-cargo k e = rw e refl
-
-pub mode-npm : (k : ℕ) → k ≡ 1 → modeIs (Modes.Compat Compat.Npm) ≡ modeOf k
-mode-npm k e = rw e refl
-
-pub mode-none : (k : ℕ) → (k ≡ 0 → ⊥) → (k ≡ 1 → ⊥) → modeIs Modes.Nothing ≡ modeOf k
-mode-none k e f = rw (ne-eqb k 0 e) (rw (ne-eqb k 1 f) refl)
-
-pub ruleset modes = (mode-cargo, mode-npm, mode-none)
-
--- ---- the answers, as numbers
-
-no-counts : (n m a b c : ℕ) → n ≡ m → a ≡ 0 → b ≡ 0 → c ≡ 0 → outcome n a b c ≡ outcome m 0 0 0
-no-counts n m a b c e i j k = rw (e, i, j, k)
-
-pub refused-counts : (r : Reading) (y : Refusal) → r ≡ R.Refused y → (n : ℕ) → n ≡ numberOf y → (a b c : ℕ) → a ≡ 0 → b ≡ 0 → c ≡ 0
-    → outcome n a b c ≡ outcomeOf r
-refused-counts r y q n e a b c i j k = no-counts n (numberOf y) a b c e i j k ∙ ap outcomeOf (sym q)
-
-pub refused-length : (r : NormalText) (y : Refusal) (n : ℕ) → r ≡ T.Refused y → n ≡ numberOf y → lengthIs n 0 ≡ lengthOf r
-refused-length r y n q e = rw q (ap (λ n. lengthIs n 0) e)
-
-pub said-yes : (r : Admission) → r ≡ Admissions.Yes → verdictIs 0 1 ≡ verdict (answerOf r)
-unfolding verdict
-said-yes r q = rw q refl
-
-pub said-no : (r : Admission) → r ≡ Admissions.No → verdictIs 0 0 ≡ verdict (answerOf r)
-unfolding verdict
-said-no r q = rw q refl
-
-pub refused-admission : (r : Admission) (y : Refusal) (n : ℕ) → r ≡ Admissions.Refused y → n ≡ numberOf y → verdictIs n 0 ≡ verdict (answerOf r)
-unfolding verdict
-refused-admission r y n q e = rw q (ap (λ n. verdictIs n 0) e)
-
-pub ruleset numbers = (refused-counts, refused-length, said-yes, said-no, refused-admission)
+use Rattle.numbers.specs.Views.{modeIs, outcome, lengthIs, verdictIs, partIs}
+use Rattle.numbers.specs.declared.Mode.{Mode}
+use Rattle.numbers.specs.declared.Mode.the-variants as Modes
 
 -- ---- a call under a mode
 
@@ -101,7 +61,7 @@ module _ (k : ℕ) (m : Mode) (e : modeIs m ≡ modeOf k) where
 
     pub none-counts : (f : E.Compat → Answer E.Reading) (a b c : ℕ) → a ≡ 0 → b ≡ 0 → c ≡ 0 → outcome 255 a b c ≡ readingOutcome (under k f)
     unfolding readingOutcome
-    none-counts f a b c h i j = rw (under-none f) (no-counts 255 255 a b c refl h i j)
+    none-counts f a b c h i j = rw (under-none f, h, i, j)
 
     pub none-words : (f : E.Compat → Answer E.Reading) (w : List ℕ) → w ≡ comparatorWordsAfter (under k f) w
     unfolding comparatorWordsAfter written
@@ -126,3 +86,44 @@ module _ (k : ℕ) (m : Mode) (e : modeIs m ≡ modeOf k) where
 pub ruleset known = (mode-counts, mode-words, mode-ids, mode-length, mode-bytes, mode-verdict)
 
 pub ruleset unknown = (none-counts, none-words, none-ids, none-length, none-bytes, none-verdict)
+
+-- ---- the identifier bytes
+
+-- a part taken once more
+take-again : (n : ℕ) (t : List ℕ) → take (length (take n t)) t ≡ take n t
+take-again zero t = refl
+take-again (suc n) [] = refl
+take-again (suc n) (c ∷ t) = ap (λ w. c ∷ w) (take-again n t)
+
+module _ (t : List ℕ) (place n : ℕ) (w : List ℕ) (e : w ≡ identifierBytes t place n) where
+  module _ (z : length w ≡ 0) where
+    pub empty-part : partIs 0 (length w) ≡ partAt place (identifierBytes t place n)
+    empty-part = go w z ∙ ap (partAt place) e
+      where
+        go : (w : List ℕ) → length w ≡ 0 → partIs 0 (length w) ≡ partAt place w
+        go [] z = refl
+        go (c ∷ w) z = absurd (omega arith)
+
+    pub empty-bytes : take (length w) (drop 0 t) ≡ identifierBytes t place n
+    empty-bytes = go w z ∙ e
+      where
+        go : (w : List ℕ) → length w ≡ 0 → take (length w) (drop 0 t) ≡ w
+        go [] z = refl
+        go (c ∷ w) z = absurd (omega arith)
+
+  module _ (z : length w ≡ 0 → ⊥) where
+    pub some-part : partIs place (length w) ≡ partAt place (identifierBytes t place n)
+    some-part = go w z ∙ ap (partAt place) e
+      where
+        go : (w : List ℕ) → (length w ≡ 0 → ⊥) → partIs place (length w) ≡ partAt place w
+        go [] z = absurd (z refl)
+        go (c ∷ w) z = refl
+
+    pub some-bytes : take (length w) (drop place t) ≡ identifierBytes t place n
+    some-bytes = go (leb (place + n) (length t)) e
+      where
+        go : (b : Bool) → w ≡ pick b (take n (drop place t)) [] → take (length w) (drop place t) ≡ pick b (take n (drop place t)) []
+        go true p = ap (λ v. take (length v) (drop place t)) p ∙ take-again n (drop place t)
+        go false p = absurd (z (ap length p))
+
+pub ruleset parts = (empty-part, empty-bytes, some-part, some-bytes)
