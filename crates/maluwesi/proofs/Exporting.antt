@@ -4,13 +4,13 @@ use Prim.Native.Nat.{ℕ}
 use mathlib.Core.Path.{_≡_, refl, sym, ap, _∙_}
 use mathlib.Core.Bool.{Bool, true, false}
 use mathlib.Core.List.{List}
-use borrow.Author.Tests.{ne-eqb}
 use Rattle.rules.specs.Expansion as E
 use Rattle.rules.specs.Answers.{Answer, accepted, refused, readingOutcome, written, comparatorWordsAfter, identifierWordsAfter, normalTextOutcome, bytesAfter, Outcome, Length}
-use Rattle.rules.specs.Exported.{modeOf, under, Verdict, verdict}
-use Rattle.range.specs.Views.{compatOf}
+use Rattle.rules.specs.Exported.{under, Verdict, verdict}
+use Rattle.range.specs.Views.{compatOf, modeIs}
 use Rattle.range.specs.declared.Compat.{Compat}
-use Rattle.range.specs.declared.Compat.the-variants as Compat
+use Rattle.range.specs.declared.Mode.{Mode}
+use Rattle.range.specs.declared.Mode.the-variants as Modes
 use Rattle.rangeset.specs.Views.{numberOf, outcomeOf}
 use Rattle.rangeset.specs.declared.Refusal.{Refusal}
 use Rattle.rangeset.specs.declared.Reading.{Reading}
@@ -21,22 +21,7 @@ use Rattle.normal_text.specs.declared.NormalText.the-variants as T
 use Rattle.admission.specs.Views.{answerOf}
 use Rattle.admission.specs.declared.Admission.{Admission}
 use Rattle.admission.specs.declared.Admission.the-variants as Admissions
-use Rattle.maluwesi.specs.Views.{modeIs, outcome, lengthIs, verdictIs}
-use Rattle.maluwesi.specs.declared.Mode.{Mode}
-use Rattle.maluwesi.specs.declared.Mode.the-variants as Modes
-
--- ---- the mode
-
-pub mode-cargo : (k : ℕ) → k ≡ 0 → modeIs (Modes.Compat Compat.Cargo) ≡ modeOf k
-mode-cargo k e = rw e refl
-
-pub mode-npm : (k : ℕ) → k ≡ 1 → modeIs (Modes.Compat Compat.Npm) ≡ modeOf k
-mode-npm k e = rw e refl
-
-pub mode-none : (k : ℕ) → (k ≡ 0 → ⊥) → (k ≡ 1 → ⊥) → modeIs Modes.Nothing ≡ modeOf k
-mode-none k e f = rw (ne-eqb k 0 e) (rw (ne-eqb k 1 f) refl)
-
-pub ruleset modes = (mode-cargo, mode-npm, mode-none)
+use Rattle.maluwesi.specs.Views.{outcome, lengthIs, verdictIs}
 
 -- ---- the answers, as numbers
 
@@ -66,7 +51,7 @@ pub ruleset numbers = (refused-counts, refused-length, said-yes, said-no, refuse
 
 -- ---- a call under a mode
 
-module _ (k : ℕ) (m : Mode) (e : modeIs m ≡ modeOf k) where
+module _ (k : ℕ) (m : Mode) (e : modeIs m ≡ E.modeFrom k) where
   -- the number is a mode's: what the call hands back
   module _ (c : Compat) (q : m ≡ Modes.Compat c) where
     under-mode : {A : Type 0} (f : E.Compat → Answer A) → f (compatOf c) ≡ under k f

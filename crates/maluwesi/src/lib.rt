@@ -4,41 +4,25 @@ ghost use mathlib.Core.Path.{_≡_};
 ghost use lib.ListN.{length};
 ghost use Rattle.rules.specs.Answers.{reading, readingCall, readingOutcome, comparatorWordsAfter, identifierWordsAfter, normalTextCall, normalTextOutcome, bytesAfter};
 ghost use Rattle.rules.specs.Admission.{admissionCall};
-ghost use Rattle.rules.specs.Exported.{modeOf, under, verdict};
+ghost use Rattle.rules.specs.Exported.{under, verdict};
 ghost use Rattle.rangeset.specs.Views.{outcomeOf};
 ghost use Rattle.normal_text.specs.Views.{lengthOf};
 ghost use Rattle.admission.specs.Views.{answerOf};
-ghost use Rattle.maluwesi.specs.Views.{modeIs, outcome, lengthIs, verdictIs};
+ghost use Rattle.maluwesi.specs.Views.{outcome, lengthIs, verdictIs};
 use admission::Admission;
 use admission::admit;
 use normal_text::NormalText;
 use normal_text::normal_text;
 use normal_text::normal_text_len;
-use range::Compat;
+use range::Mode;
+use range::mode_of;
 use rangeset::Reading;
 use rangeset::count;
 use rangeset::read;
 
-// ---- the mode
-
-enum Mode {
-    Compat(Compat),
-    Nothing,
-}
-
-fn mode_of(number: u8) -> Mode
-    ensures { λ r. ⌜ modeIs r ≡ modeOf number ⌝ }
-{
-    match number {
-        0 => Mode::Compat(Compat::Cargo),
-        1 => Mode::Compat(Compat::Npm),
-        _ => Mode::Nothing,
-    }
-}
-
 // ---- the answers, as numbers
 
-// What is answered where the mode's number is none: no refusal of 01 has it.
+// What is answered where the mode's number is none: no refusal of 01 and 02 has it.
 const NO_MODE: u64 = 255;
 
 fn put_no_counts(ranges: &mut usize, comparators: &mut usize, identifiers: &mut usize)
