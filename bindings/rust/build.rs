@@ -1,11 +1,11 @@
-//! Links libmaluwesi.a from the folder that MALUWESI_LIB_DIR names, or else from the repository's
-//! target/staticlib.
+//! Links libmaluwesi.a and libmaluwesi_shelf.a from the folder that MALUWESI_LIB_DIR names, or else
+//! from the repository's target/staticlib.
 
 use std::path::{Path, PathBuf};
 use std::{env, process};
 
 const FOLDER_VARIABLE: &str = "MALUWESI_LIB_DIR";
-const ARCHIVE: &str = "libmaluwesi.a";
+const LIBRARIES: [&str; 2] = ["maluwesi", "maluwesi_shelf"];
 
 fn library_folder() -> PathBuf {
     match env::var_os(FOLDER_VARIABLE) {
@@ -17,22 +17,22 @@ fn library_folder() -> PathBuf {
 fn main() {
     let folder = library_folder();
     println!("cargo:rerun-if-env-changed={FOLDER_VARIABLE}");
-    println!("cargo:rerun-if-changed={}", folder.join(ARCHIVE).display());
-
     // The linker runs in another folder, so a relative path would not reach it.
-    let Ok(folder) = folder.canonicalize() else {
-        no_archive(&folder);
-    };
-    if !folder.join(ARCHIVE).is_file() {
-        no_archive(&folder);
-    }
+    let folder = folder.canonicalize().unwrap_or(folder);
     println!("cargo:rustc-link-search=native={}", folder.display());
-    println!("cargo:rustc-link-lib=static=maluwesi");
+    for library in LIBRARIES {
+        let archive = folder.join(format!("lib{library}.a"));
+        println!("cargo:rerun-if-changed={}", archive.display());
+        if !archive.is_file() {
+            no_archive(library, &archive);
+        }
+        println!("cargo:rustc-link-lib=static={library}");
+    }
 }
 
-fn no_archive(folder: &Path) -> ! {
-    eprintln!("There is no {ARCHIVE} in {}.", folder.display());
-    eprintln!("`rt staticlib maluwesi` in the root of the repository makes it.");
+fn no_archive(library: &str, archive: &Path) -> ! {
+    eprintln!("There is no {}.", archive.display());
+    eprintln!("`rt staticlib {library}` in the root of the repository makes it.");
     eprintln!("If it stands elsewhere, name its folder in {FOLDER_VARIABLE}.");
     process::exit(1);
 }

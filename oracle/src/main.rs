@@ -1,5 +1,6 @@
 //! Compares Maluwesi with the crate semver-parser 0.10.3, and its admissions with the crate semver.
-//! Run by oracle/run and oracle/sample.
+//! Compares its shelf
+//! with a model of it. Run by oracle/run, oracle/sample and oracle/shelf.
 
 mod admission;
 mod answer;
@@ -10,6 +11,9 @@ mod random;
 mod reference;
 mod report;
 mod sample;
+mod shelf;
+mod shelf_calls;
+mod shelf_model;
 mod texts;
 
 use random::Random;
@@ -24,7 +28,7 @@ use std::{env, thread};
 use texts::Job;
 
 const THREADS: usize = 2;
-const USAGE: &str = "usage: oracle compare SEED | oracle sample SEED";
+const USAGE: &str = "usage: oracle compare SEED | oracle sample SEED | oracle shelf SEED";
 
 fn main() -> ExitCode {
     let arguments: Vec<_> = env::args().skip(1).collect();
@@ -39,6 +43,7 @@ fn main() -> ExitCode {
             sample::print(seed);
             ExitCode::SUCCESS
         }
+        "shelf" => shelf::compare_all(seed),
         _ => panic!("{USAGE}"),
     }
 }

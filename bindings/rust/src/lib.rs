@@ -22,10 +22,13 @@ mod calls;
 mod range;
 mod range_set;
 mod refusal;
+mod shelf;
+mod shelf_calls;
 
 pub use range::{Comparator, Identifier, Op, Range};
 pub use range_set::{Compat, RangeSet};
 pub use refusal::Refusal;
+pub use shelf::{Entries, Entry, Shelf};
 
 /// The range text in its plainest spelling, such as `>=1.2.0 <1.3.0 || =2.0.0`.
 ///

@@ -15,15 +15,13 @@ use normal_text::NormalText;
 use normal_text::normal_text;
 use normal_text::normal_text_len;
 use range::Mode;
+use range::NO_MODE;
 use range::mode_of;
 use rangeset::Reading;
 use rangeset::count;
 use rangeset::read;
 
 // ---- the answers, as numbers
-
-// What is answered where the mode's number is none: no refusal of 01 and 02 has it.
-const NO_MODE: u64 = 255;
 
 fn put_no_counts(ranges: &mut usize, comparators: &mut usize, identifiers: &mut usize)
     ensures { λ _. ⌜ now (ranges .exit) ≡ 0 ⌝ }

@@ -37,6 +37,9 @@ pub enum Mode {
     Nothing,
 }
 
+// What an exported call answers where the mode's number is none: no refusal of 01 and 02 has it.
+pub const NO_MODE: u64 = 255;
+
 pub fn mode_of(number: u8) -> Mode
     ensures { λ r. ⌜ modeIs r ≡ modeFrom number ⌝ }
 {
