@@ -2,7 +2,7 @@
 //! that none did. Of each call the answer and every byte is compared.
 
 use crate::admission::{random_range, version_near};
-use crate::random::{damaged, noise, Random};
+use crate::random::{damaged, noise, number, Random};
 use crate::report::{shown, Differences};
 use crate::shelf_calls as library;
 use crate::shelf_model::{self as model, Readings, ENTRIES, ENTRY, SIZE, TEXT};
@@ -10,7 +10,7 @@ use std::collections::BTreeMap;
 use std::process::ExitCode;
 use std::time::Instant;
 
-const CALLS: u64 = 2_000_000;
+const CALLS: u64 = 5_000_000;
 const CALLS_ON_A_MEMORY: usize = 200;
 const TEXTS: usize = 400;
 
@@ -77,7 +77,7 @@ fn random_version(random: &mut Random, readings: &mut Readings, texts: &[Vec<u8>
     let text = &texts[random.below(texts.len())];
     let version = match readings.of(text, 1) {
         Ok(set) => version_near(random, set),
-        Err(_) => "9.9.9".to_string(),
+        Err(_) => format!("{}.{}.{}", number(random), number(random), number(random)),
     };
     match random.one_in(12) {
         true => damaged(random, version.as_bytes()),
@@ -88,7 +88,7 @@ fn random_version(random: &mut Random, readings: &mut Readings, texts: &[Vec<u8>
 /// Codes are few, so that calls meet them; some have only one of their bytes.
 fn random_code(random: &mut Random) -> u16 {
     match random.below(40) {
-        0 => u16::from_le_bytes([random.byte(), random.byte()]),
+        0..=3 => u16::from_le_bytes([random.byte(), random.byte()]),
         few => [0, 1, 255, 256, 257, 65_535][few % 6] ^ (few as u16 / 6),
     }
 }
@@ -133,19 +133,19 @@ fn compare_calls(random: &mut Random, readings: &mut Readings, stock: &Stock, me
     for _ in 0..CALLS_ON_A_MEMORY {
         let (call, there, answer) = match random.below(100) {
             0 => {
-                let answer = number(model::clear(&mut expected));
+                let answer = refusal(model::clear(&mut expected));
                 ("clear", library::clear(&mut here), answer)
             }
             1..=44 => {
                 let code = random_code(random);
                 let mode = if random.one_in(50) { random.byte() } else { random.below(2) as u8 };
                 let text = &stock.texts[random.below(stock.texts.len())];
-                let answer = number(model::add(&mut expected, code, mode, text, readings));
+                let answer = refusal(model::add(&mut expected, code, mode, text, readings));
                 ("add", library::add(&mut here, code, mode, text), answer)
             }
             45..=64 => {
                 let code = random_code(random);
-                let answer = number(model::remove(&mut expected, code));
+                let answer = refusal(model::remove(&mut expected, code));
                 ("remove", library::remove(&mut here, code), answer)
             }
             65..=79 => {
@@ -175,6 +175,6 @@ fn compare_calls(random: &mut Random, readings: &mut Readings, stock: &Stock, me
     }
 }
 
-fn number(result: Result<(), u64>) -> u64 {
+fn refusal(result: Result<(), u64>) -> u64 {
     result.map_or_else(|number| number, |()| 0)
 }
