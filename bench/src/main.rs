@@ -3,10 +3,12 @@
 //! inside `measured`, for callgrind; `bench table TIMES COUNTS` prints both as a table.
 
 mod peers;
+mod shelf;
 mod table;
 mod texts;
 
 use peers::{Peer, ADMITTERS, READERS, SPELLERS};
+use shelf::{ADDERS, FITTERS};
 use std::hint::black_box;
 use std::time::{Duration, Instant};
 use texts::Text;
@@ -26,6 +28,8 @@ fn acts() -> Vec<Act> {
         Act { name: "spell", peers: &SPELLERS, texts: short() },
         Act { name: "admit", peers: &ADMITTERS, texts: short() },
         Act { name: "grow", peers: ours, texts: texts::growing() },
+        Act { name: "first fit", peers: &FITTERS, texts: texts::on_shelf() },
+        Act { name: "add", peers: &ADDERS, texts: texts::on_shelf() },
     ]
 }
 

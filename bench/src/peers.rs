@@ -3,7 +3,7 @@
 
 use std::cell::UnsafeCell;
 
-const CARGO: u8 = 0;
+pub const CARGO: u8 = 0;
 
 extern "C" {
     fn maluwesi_read(
@@ -37,7 +37,7 @@ extern "C" {
 }
 
 /// The memory that is lent: enough for every text of 65,535 bytes.
-struct Lent<T, const N: usize>(UnsafeCell<[T; N]>);
+pub struct Lent<T, const N: usize>(pub UnsafeCell<[T; N]>);
 // One thread runs the acts.
 unsafe impl<T, const N: usize> Sync for Lent<T, N> {}
 const WORDS_LEN: usize = 6 * 65_536;

@@ -47,3 +47,9 @@ pub fn growing() -> Vec<Text> {
         of("empty ranges, 64 KB", "||".repeat(32_767)),
     ]
 }
+
+/// The text of each entry of the shelf.
+pub fn on_shelf() -> Vec<Text> {
+    let text = ">=1.2.0-rc.1, <1.4.0";
+    vec![Text { name: text, text: text.into() }]
+}

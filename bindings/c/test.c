@@ -1,4 +1,5 @@
-/* Calls every function of maluwesi.h. Prints a line for each check that failed, and then how many checks there were. */
+/* Calls every function of maluwesi.h but the shelf's. Prints a line for each check that failed, and then how many checks there were. */
+#include "check.h"
 #include "maluwesi.h"
 
 #include <stdio.h>
@@ -8,25 +9,6 @@
 #define ROOM 32
 #define UNTOUCHED 0x5A5A5A5A5A5A5A5A
 #define UNTOUCHED_BYTE 0x5A
-
-static unsigned checks, failed;
-
-/* Every function that checks has the range text in `text`. */
-#define CHECK(condition) check((condition), #condition, text, __LINE__)
-
-static void check(int holds, const char *condition, const char *text, int line)
-{
-    checks++;
-    if (!holds) {
-        failed++;
-        printf("line %d: not %s: %.40s\n", line, condition, text);
-    }
-}
-
-static const uint8_t *bytes(const char *text)
-{
-    return (const uint8_t *)text;
-}
 
 /* ---- the calls, in memory that is filled before; what is lent begins behind the first word or byte */
 

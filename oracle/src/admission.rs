@@ -95,7 +95,7 @@ fn comparators(set: &RangeSet) -> impl Iterator<Item = &Comparator> {
 // ---- versions
 
 /// The version without its build part, or the refusal.
-fn parse_version(text: &[u8]) -> Result<Version, u64> {
+pub fn parse_version(text: &[u8]) -> Result<Version, u64> {
     let text = std::str::from_utf8(text).map_err(|_| 8u64)?;
     if text.len() > LONGEST_TEXT {
         return Err(8);
@@ -118,7 +118,7 @@ fn with_small_components(text: &str) -> String {
 
 // ---- precedence
 
-fn admits(set: &RangeSet, version: &Version) -> bool {
+pub fn admits(set: &RangeSet, version: &Version) -> bool {
     set.ranges.iter().any(|range| range.comparator_set.iter().all(|c| meets(version, c)))
 }
 
@@ -180,7 +180,7 @@ fn kinds(pre: &Prerelease) -> Vec<Identifier> {
 
 // ---- pairs
 
-fn random_range(random: &mut Random) -> Vec<u8> {
+pub fn random_range(random: &mut Random) -> Vec<u8> {
     let numbers = if random.one_in(3) { Numbers::Any } else { Numbers::Small };
     let range = range_set(random, numbers).into_bytes();
     match random.one_in(16) {
@@ -201,7 +201,7 @@ fn random_version(random: &mut Random, range: &[u8], mode: Compat) -> Vec<u8> {
 }
 
 /// A version equal to one of the range set's or a little off it.
-fn version_near(random: &mut Random, set: &RangeSet) -> String {
+pub fn version_near(random: &mut Random, set: &RangeSet) -> String {
     let range = &set.ranges[random.below(set.ranges.len())];
     let comparator = &range.comparator_set[random.below(range.comparator_set.len())];
     let mut near = |number: u64| match random.below(8) {

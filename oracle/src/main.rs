@@ -1,5 +1,5 @@
 //! Compares Maluwesi with the crate semver-parser 0.10.3, and its admissions with the crate semver.
-//! Run by oracle/run, oracle/sample and oracle/tables.
+//! Compares its shelf with a model of it. Run by oracle/run, oracle/sample, oracle/tables and oracle/shelf.
 
 mod admission;
 mod answer;
@@ -11,6 +11,9 @@ mod random;
 mod reference;
 mod report;
 mod sample;
+mod shelf;
+mod shelf_calls;
+mod shelf_model;
 mod tables;
 mod texts;
 
@@ -26,7 +29,7 @@ use std::{env, path::Path, thread};
 use texts::Job;
 
 const THREADS: usize = 2;
-const USAGE: &str = "usage: oracle compare SEED | oracle sample SEED FOLDER | oracle tables SEED FOLDER";
+const USAGE: &str = "usage: oracle compare SEED | oracle sample SEED FOLDER | oracle tables SEED FOLDER | oracle shelf SEED";
 
 fn main() -> ExitCode {
     let arguments: Vec<_> = env::args().skip(1).collect();
@@ -42,6 +45,7 @@ fn main() -> ExitCode {
             tables::write(seed.parse().expect(USAGE), folder);
             ExitCode::SUCCESS
         }
+        ["shelf", seed] => shelf::compare_all(seed.parse().expect(USAGE)),
         _ => panic!("{USAGE}"),
     }
 }

@@ -270,19 +270,19 @@ pub fn equal_readings(
     accepted(number).map(|()| equal == 1)
 }
 
-fn mode(compat: Compat) -> u8 {
+pub(crate) fn mode(compat: Compat) -> u8 {
     match compat {
         Compat::Cargo => 0,
         Compat::Npm => 1,
     }
 }
 
-fn accepted(number: u64) -> Result<(), Refusal> {
+pub(crate) fn accepted(number: u64) -> Result<(), Refusal> {
     if number == 0 {
         return Ok(());
     }
     let refusal = Refusal::from_number(number);
-    Err(refusal.expect("a call whose mode is 0 or 1 returns 0 to 9"))
+    Err(refusal.expect("a call whose mode is 0 or 1 returns 0 to 12"))
 }
 
 #[cfg(test)]

@@ -23,10 +23,13 @@ mod calls;
 mod range;
 mod range_set;
 mod refusal;
+mod shelf;
+mod shelf_calls;
 
 pub use range::{Comparator, Identifier, Op, Range};
 pub use range_set::{Compat, RangeSet};
 pub use refusal::Refusal;
+pub use shelf::{Entries, Entry, Shelf};
 
 use range_set::Rows;
 

@@ -17,10 +17,13 @@ pub enum Refusal {
     BytesShort,
     NoVersion,
     VersionTooLarge,
+    NotShelf,
+    Full,
+    Code,
 }
 
 impl Refusal {
-    /// The refusal's number, 1 to 9.
+    /// The refusal's number, 1 to 12.
     pub fn number(self) -> u64 {
         self as u64
     }
@@ -36,6 +39,9 @@ impl Refusal {
             7 => Refusal::BytesShort,
             8 => Refusal::NoVersion,
             9 => Refusal::VersionTooLarge,
+            10 => Refusal::NotShelf,
+            11 => Refusal::Full,
+            12 => Refusal::Code,
             _ => return None,
         };
         Some(refusal)
@@ -56,6 +62,9 @@ impl fmt::Display for Refusal {
             Refusal::VersionTooLarge => {
                 "the version's major, minor or patch exceeds 18446744073709551615"
             }
+            Refusal::NotShelf => "the memory is no shelf",
+            Refusal::Full => "the shelf has 256 entries",
+            Refusal::Code => "the part code is on the shelf already, or is not on it",
         })
     }
 }

@@ -11,77 +11,76 @@ use lib.ListN.{length, take, drop}
 use Rattle.rules.specs.Bytes.{pick}
 use Rattle.rules.specs.Expansion as E
 use Rattle.rules.specs.Answers.{Answer, refused, readingOutcome, written, comparatorWordsAfter, identifierWordsAfter, identifierBytes, normalTextOutcome, bytesAfter, Outcome, Length}
-use Rattle.rules.specs.Exported.{modeOf, under, Verdict, verdict, partAt}
-use Rattle.range.specs.Views.{compatOf}
+use Rattle.rules.specs.Exported.{under, Verdict, verdict, partAt}
+use Rattle.range.specs.Views.{compatOf, modeIs}
 use Rattle.range.specs.declared.Compat.{Compat}
+use Rattle.range.specs.declared.Mode.{Mode}
+use Rattle.range.specs.declared.Mode.the-variants as Modes
+use Rattle.range.proofs.Modes.{under-mode, under-none}
 use Rattle.rangeset.specs.Views.{outcomeOf}
 use Rattle.rangeset.specs.declared.Reading.{Reading}
 use Rattle.normal_text.specs.Views.{lengthOf}
 use Rattle.normal_text.specs.declared.NormalText.{NormalText}
 use Rattle.admission.specs.Views.{answerOf}
 use Rattle.admission.specs.declared.Admission.{Admission}
-use Rattle.numbers.specs.Views.{modeIs, outcome, lengthIs, verdictIs, partIs}
-use Rattle.numbers.specs.declared.Mode.{Mode}
-use Rattle.numbers.specs.declared.Mode.the-variants as Modes
+use Rattle.numbers.specs.Views.{outcome, lengthIs, verdictIs, partIs}
 
 -- ---- a call under a mode
 
-module _ (k : ℕ) (m : Mode) (e : modeIs m ≡ modeOf k) where
+module _ (k : ℕ) (m : Mode) (e : modeIs m ≡ E.modeFrom k) where
   -- the number is a mode's: what the call hands back
   module _ (c : Compat) (q : m ≡ Modes.Compat c) where
-    under-mode : {A : Type 0} (f : E.Compat → Answer A) → f (compatOf c) ≡ under k f
-    unfolding under
-    under-mode f = rw (sym (ap modeIs (sym q) ∙ e)) refl
+    under-this : {A : Type 0} (f : E.Compat → Answer A) → f (compatOf c) ≡ under k f
+    under-this f = under-mode k m e f c q
 
     pub mode-counts : (f : E.Compat → Answer E.Reading) (r : Reading) → outcomeOf r ≡ readingOutcome (f (compatOf c))
         → (x : Outcome) → x ≡ outcomeOf r → x ≡ readingOutcome (under k f)
-    mode-counts f r h x p = p ∙ h ∙ ap readingOutcome (under-mode f)
+    mode-counts f r h x p = p ∙ h ∙ ap readingOutcome (under-this f)
 
     pub mode-words : (f : E.Compat → Answer E.Reading) (w x : List ℕ) → x ≡ comparatorWordsAfter (f (compatOf c)) w → x ≡ comparatorWordsAfter (under k f) w
-    mode-words f w x p = p ∙ ap (λ a. comparatorWordsAfter a w) (under-mode f)
+    mode-words f w x p = p ∙ ap (λ a. comparatorWordsAfter a w) (under-this f)
 
     pub mode-ids : (f : E.Compat → Answer E.Reading) (s i x : List ℕ) → x ≡ identifierWordsAfter s (f (compatOf c)) i → x ≡ identifierWordsAfter s (under k f) i
-    mode-ids f s i x p = p ∙ ap (λ a. identifierWordsAfter s a i) (under-mode f)
+    mode-ids f s i x p = p ∙ ap (λ a. identifierWordsAfter s a i) (under-this f)
 
     pub mode-length : (f : E.Compat → Answer (List ℕ)) (r : NormalText) → lengthOf r ≡ normalTextOutcome (f (compatOf c))
         → (x : Length) → x ≡ lengthOf r → x ≡ normalTextOutcome (under k f)
-    mode-length f r h x p = p ∙ h ∙ ap normalTextOutcome (under-mode f)
+    mode-length f r h x p = p ∙ h ∙ ap normalTextOutcome (under-this f)
 
     pub mode-bytes : (f : E.Compat → Answer (List ℕ)) (o x : List ℕ) → x ≡ bytesAfter (f (compatOf c)) o → x ≡ bytesAfter (under k f) o
-    mode-bytes f o x p = p ∙ ap (λ a. bytesAfter a o) (under-mode f)
+    mode-bytes f o x p = p ∙ ap (λ a. bytesAfter a o) (under-this f)
 
     pub mode-verdict : (f : E.Compat → Answer Bool) (r : Admission) → answerOf r ≡ f (compatOf c) → (x : Verdict) → x ≡ verdict (answerOf r) → x ≡ verdict (under k f)
-    mode-verdict f r h x p = p ∙ ap verdict (h ∙ under-mode f)
+    mode-verdict f r h x p = p ∙ ap verdict (h ∙ under-this f)
 
   -- it is none: zero counts, and nothing that was lent changes
   module _ (q : m ≡ Modes.Nothing) where
-    under-none : {A : Type 0} (f : E.Compat → Answer A) → under k f ≡ refused 255
-    unfolding under
-    under-none f = rw (sym (ap modeIs (sym q) ∙ e)) refl
+    no-mode : {A : Type 0} (f : E.Compat → Answer A) → under k f ≡ refused 255
+    no-mode f = under-none k m e f q
 
     pub none-counts : (f : E.Compat → Answer E.Reading) (a b c : ℕ) → a ≡ 0 → b ≡ 0 → c ≡ 0 → outcome 255 a b c ≡ readingOutcome (under k f)
     unfolding readingOutcome
-    none-counts f a b c h i j = rw (under-none f, h, i, j)
+    none-counts f a b c h i j = rw (no-mode f, h, i, j)
 
     pub none-words : (f : E.Compat → Answer E.Reading) (w : List ℕ) → w ≡ comparatorWordsAfter (under k f) w
     unfolding comparatorWordsAfter written
-    none-words f w = rw (under-none f) refl
+    none-words f w = rw (no-mode f) refl
 
     pub none-ids : (f : E.Compat → Answer E.Reading) (s i : List ℕ) → i ≡ identifierWordsAfter s (under k f) i
     unfolding identifierWordsAfter written
-    none-ids f s i = rw (under-none f) refl
+    none-ids f s i = rw (no-mode f) refl
 
     pub none-length : (f : E.Compat → Answer (List ℕ)) → lengthIs 255 0 ≡ normalTextOutcome (under k f)
     unfolding normalTextOutcome
-    none-length f = rw (under-none f) refl
+    none-length f = rw (no-mode f) refl
 
     pub none-bytes : (f : E.Compat → Answer (List ℕ)) (o : List ℕ) → o ≡ bytesAfter (under k f) o
     unfolding bytesAfter written
-    none-bytes f o = rw (under-none f) refl
+    none-bytes f o = rw (no-mode f) refl
 
     pub none-verdict : (f : E.Compat → Answer Bool) → verdictIs 255 0 ≡ verdict (under k f)
     unfolding verdict
-    none-verdict f = rw (under-none f) refl
+    none-verdict f = rw (no-mode f) refl
 
 pub ruleset known = (mode-counts, mode-words, mode-ids, mode-length, mode-bytes, mode-verdict)
 

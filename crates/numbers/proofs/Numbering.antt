@@ -1,10 +1,8 @@
--- The modes with their numbers, and the answers as numbers: a law for each way.
+-- The answers as numbers: a law for each way.
 -- Assumes nothing.
 use Prim.Native.Nat.{ℕ}
 use mathlib.Core.Path.{_≡_, refl, sym, ap, _∙_}
-use borrow.Author.Tests.{ne-eqb}
-use Rattle.rules.specs.Exported.{modeOf, verdict}
-use Rattle.range.specs.declared.Compat.the-variants as Compat
+use Rattle.rules.specs.Exported.{verdict}
 use Rattle.rangeset.specs.Views.{numberOf, outcomeOf}
 use Rattle.rangeset.specs.declared.Refusal.{Refusal}
 use Rattle.rangeset.specs.declared.Reading.{Reading}
@@ -15,21 +13,7 @@ use Rattle.normal_text.specs.declared.NormalText.the-variants as T
 use Rattle.admission.specs.Views.{answerOf}
 use Rattle.admission.specs.declared.Admission.{Admission}
 use Rattle.admission.specs.declared.Admission.the-variants as Admissions
-use Rattle.numbers.specs.Views.{modeIs, outcome, lengthIs, verdictIs}
-use Rattle.numbers.specs.declared.Mode.the-variants as Modes
-
--- ---- the mode
-
-pub mode-cargo : (k : ℕ) → k ≡ 0 → modeIs (Modes.Compat Compat.Cargo) ≡ modeOf k
-mode-cargo k e = rw e refl
-
-pub mode-npm : (k : ℕ) → k ≡ 1 → modeIs (Modes.Compat Compat.Npm) ≡ modeOf k
-mode-npm k e = rw e refl
-
-pub mode-none : (k : ℕ) → (k ≡ 0 → ⊥) → (k ≡ 1 → ⊥) → modeIs Modes.Nothing ≡ modeOf k
-mode-none k e f = rw (ne-eqb k 0 e) (rw (ne-eqb k 1 f) refl)
-
-pub ruleset modes = (mode-cargo, mode-npm, mode-none)
+use Rattle.numbers.specs.Views.{outcome, lengthIs, verdictIs}
 
 -- ---- the answers
 

@@ -1,20 +1,8 @@
 -- What an exported function hands back: the number that it returns, and what it leaves in the places that it is given.
 -- Assumes nothing.
 use Prim.Native.Nat.{ℕ}
-use Rattle.rules.specs.Answers.{Answer, accepted, refused, Outcome, Length}
-use Rattle.rules.specs.Expansion as E
+use Rattle.rules.specs.Answers.{Outcome, Length}
 use Rattle.rules.specs.Exported.{Verdict, Part}
-use Rattle.range.specs.Views.{compatOf}
-use Rattle.numbers.specs.declared.Mode.{Mode}
-use Rattle.numbers.specs.declared.Mode.the-variants as Mode
-
--- ---- the mode
-
-abbrev pub modeIs : Mode → Answer E.Compat
-modeIs (Mode.Compat m) = accepted (compatOf m)
-modeIs Mode.Nothing = refused 255
-
--- ---- the answers
 
 abbrev pub outcome : ℕ → ℕ → ℕ → ℕ → Outcome
 outcome n a b c = record { refusal = n; ranges = a; comparators = b; identifiers = c }

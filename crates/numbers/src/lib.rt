@@ -1,35 +1,13 @@
-// Modes and answers as numbers, for the functions that are exported: the mode with a number, and the answers left in the places that are given for
-// them, with 0 or the number of the refusal returned.
+// Answers as numbers, for the functions that are exported: left in the places that are given for them, with 0 or the number of the refusal returned.
 ghost use mathlib.Core.Path.{_≡_};
-ghost use Rattle.rules.specs.Exported.{modeOf, verdict};
+ghost use Rattle.rules.specs.Exported.{verdict};
 ghost use Rattle.rangeset.specs.Views.{outcomeOf};
 ghost use Rattle.normal_text.specs.Views.{lengthOf};
 ghost use Rattle.admission.specs.Views.{answerOf};
-ghost use Rattle.numbers.specs.Views.{modeIs, outcome, lengthIs, verdictIs};
+ghost use Rattle.numbers.specs.Views.{outcome, lengthIs, verdictIs};
 use admission::Admission;
 use normal_text::NormalText;
-use range::Compat;
 use rangeset::Reading;
-
-// ---- the mode
-
-// What is returned where a mode's number is none: no refusal of 01 has it.
-pub const NO_MODE: u64 = 255;
-
-pub enum Mode {
-    Compat(Compat),
-    Nothing,
-}
-
-pub fn mode_of(number: u8) -> Mode
-    ensures { λ r. ⌜ modeIs r ≡ modeOf number ⌝ }
-{
-    match number {
-        0 => Mode::Compat(Compat::Cargo),
-        1 => Mode::Compat(Compat::Npm),
-        _ => Mode::Nothing,
-    }
-}
 
 // ---- the answers
 

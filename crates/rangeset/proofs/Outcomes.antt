@@ -107,6 +107,9 @@ refusal-number Refusals.IdentifiersShort e = omega arith
 refusal-number Refusals.BytesShort e = omega arith
 refusal-number Refusals.NoVersion e = omega arith
 refusal-number Refusals.VersionTooLarge e = omega arith
+refusal-number Refusals.NotShelf e = omega arith
+refusal-number Refusals.Full e = omega arith
+refusal-number Refusals.Code e = omega arith
 
 pub counted-reading : (m : Compat) (s : List ℕ) (c : Counts) → outcomeOf (R.Accepted c) ≡ readingOutcome (reading m s) → Counted m s c
 unfolding readingOutcome

@@ -79,6 +79,9 @@ numberOf Refusal.IdentifiersShort = 6
 numberOf Refusal.BytesShort = 7
 numberOf Refusal.NoVersion = 8
 numberOf Refusal.VersionTooLarge = 9
+numberOf Refusal.NotShelf = 10
+numberOf Refusal.Full = 11
+numberOf Refusal.Code = 12
 
 -- 01's number and counts: "A refused call hands back its number and zero counts"
 abbrev pub outcomeOf : Reading → Outcome

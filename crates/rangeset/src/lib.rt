@@ -83,7 +83,7 @@ fn measure(s: &[u8], compat: Compat, first: Step) -> Tally
 
 // ---- the refusals
 
-// 01's refusals, in its order.
+// 01's refusals, in its order, and the shelf's (02, N1).
 pub enum Refusal {
     TooLong,
     NoReading,
@@ -94,6 +94,9 @@ pub enum Refusal {
     BytesShort,
     NoVersion,
     VersionTooLarge,
+    NotShelf,
+    Full,
+    Code,
 }
 
 impl Refusal {
@@ -111,6 +114,9 @@ impl Refusal {
             Refusal::BytesShort => 7,
             Refusal::NoVersion => 8,
             Refusal::VersionTooLarge => 9,
+            Refusal::NotShelf => 10,
+            Refusal::Full => 11,
+            Refusal::Code => 12,
         }
     }
 }

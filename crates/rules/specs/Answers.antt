@@ -3,6 +3,7 @@
 -- Assumes nothing.
 use Prim.Native.Nat.{ℕ, _+_, _/_}
 use mathlib.Core.Bool.{Bool, true, false, _&&_}
+use mathlib.Core.Option.{Option, none, some}
 use mathlib.Core.List.{List, [], _∷_, _++_, map}
 use lib.Dec.{leb}
 use lib.ListN.{length, take, drop}
@@ -58,6 +59,11 @@ readingFits rs = each (each comparatorFits) rs
 abbrev pub mapAnswer : {A B : Type 0} → (A → B) → Answer A → Answer B
 mapAnswer f (accepted a) = accepted (f a)
 mapAnswer f (refused n) = refused n
+
+-- what is there, or the refusal
+abbrev pub orRefused : {A : Type 0} → ℕ → Option A → Answer A
+orRefused n none = refused n
+orRefused n (some a) = accepted a
 
 -- "2. The range text has no reading in the grammar below."
 unfoldable pub derived : Result (List Range) → Answer (List Range)

@@ -3,20 +3,19 @@
 use Prim.Native.Nat.{ℕ}
 use mathlib.Core.Bool.{Bool, true, false}
 use mathlib.Core.List.{List, [], _∷_}
-use lib.Dec.{eqb}
 use lib.ListN.{length}
-use Rattle.rules.specs.Bytes.{pick}
-use Rattle.rules.specs.Expansion.{Compat, cargo, npm}
-use Rattle.rules.specs.Answers.{Answer, accepted, refused, mapAnswer}
+use Rattle.rules.specs.Expansion.{Compat, modeFrom}
+use Rattle.rules.specs.Answers.{Answer, accepted, refused, mapAnswer, orRefused}
 use Rattle.rules.specs.Equality.{andThen}
 
--- The mode with this number: 0 Cargo, 1 Npm. Another number is no mode, and is refused before the text is looked at, under a number that none of
--- 01's refusals has.
+-- The mode with this number. Another number is no mode, and is refused before the text is looked at, under a number that no refusal of 01 and 02
+-- has.
 abbrev pub modeOf : ℕ → Answer Compat
-modeOf k = pick (eqb k 0) (accepted cargo) (pick (eqb k 1) (accepted npm) (refused 255))
+modeOf k = orRefused 255 (modeFrom k)
 
 -- a call under the mode with this number
 unfoldable pub under : {A : Type 0} → ℕ → (Compat → Answer A) → Answer A
+unfolding modeFrom
 under k f = andThen (modeOf k) f
 
 -- the modes with these numbers, and a call under both

@@ -36,7 +36,7 @@ module _ (m : Compat) (s l : List ℕ) (r : Reading) (e : outcomeOf r ≡ readin
     refuses : reading m s ≡ refused n
     refuses = refused-reading m s x (ap outcomeOf (sym q) ∙ e) ∙ ap refused (sym f)
 
-    short : length (spellRefusal n) ≤ 9
+    short : length (spellRefusal n) ≤ 10
     short = rw f (refusal-short x)
 
     module _ (h : verdictRoom ≤ length l) where

@@ -1,7 +1,7 @@
-use Rattle.numbers.proofs.Numbering.{modes}
+use Rattle.range.proofs.Modes.{modes}
 use borrow.Author.Needs.{needs}
-use Rattle.numbers.proofs.mode_of.Statement.{statement}
-use Rattle.numbers.proofs.mode_of.Tie as tie
+use Rattle.range.proofs.mode_of.Statement.{statement}
+use Rattle.range.proofs.mode_of.Tie as tie
 
 pub mode-of-spec : {M : Type 1} → statement M
 mode-of-spec =

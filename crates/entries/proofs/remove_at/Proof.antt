@@ -1,0 +1,18 @@
+use Rattle.entries.proofs.Changing.{removings}
+use borrow.Author.Needs.{needs}
+use Rattle.entries.proofs.remove_at.Statement.{statement}
+use Rattle.entries.proofs.remove_at.Tie as tie
+
+pub remove-at-spec : {M : Type 1} → statement M
+remove-at-spec =
+    tie.close
+    (tie.spec
+    (λ c. search (removings, needs))
+    (λ c. search (removings, needs))
+    (λ c. search (removings, needs))
+    (λ c κs. search (removings, needs))
+    (λ c. search (removings, needs))
+    (λ c. search (removings, needs))
+    (λ c κs. search (removings, needs))
+    (λ c. search (removings, needs))
+    (λ c. search (removings, needs)))

@@ -1,0 +1,57 @@
+-- THE THEOREMS about the shelf's definitions, each in its final form; its proof is cited.
+-- Assumes nothing.
+use mathlib.Core.Path.{_≡_}
+use Prim.Native.Nat.{ℕ, _<_}
+use mathlib.Core.List.{List, [], _∷_, _++_, map}
+use lib.ListN.{take, drop}
+use Rattle.rules.specs.Expansion.{Compat}
+use Rattle.rules.specs.Answers.{accepted, mapAnswer, orRefused, reading}
+use Rattle.rules.specs.Admission.{Question, admitsIf, versionOf}
+use Rattle.shelf_rules.specs.Shelf.{emptyCall, addCall, removeCall, Part, listCall, textCall, firstFitCall}
+use Rattle.shelf_rules.specs.Entries.{Entry, entry, IsShelf, withoutCode, textWith, firstEntry, Built}
+use Rattle.shelf_rules.specs.Examples.{changes, changeAnswered, changeExpected, listings, listingAnswered, listingExpected, fits, fitAnswered, fitExpected}
+use Rattle.shelf_rules.proofs.ShelfLaws as ShelfLaws
+use Rattle.shelf_rules.proofs.ListingLaws as ListingLaws
+use Rattle.shelf_rules.proofs.Tables as Tables
+
+-- ---- 1. A shelf built by calls from an empty one is the bytes of at most 256 entries with different codes, each with a text that is accepted.
+
+pub built-shelf : {l : List ℕ} → Built l → (es : List Entry) × IsShelf es l
+built-shelf = ShelfLaws.built-shelf
+
+-- ---- 2. The calls on the shelf of such entries: none after make empty; one more, behind the others, after an add; one less after a remove, the
+-- others in their order.
+
+pub shelf-empty : (l l′ : List ℕ) → emptyCall l ≡ accepted l′ → IsShelf [] l′
+shelf-empty = ShelfLaws.shelf-empty
+
+pub shelf-added : {es : List Entry} {l : List ℕ} (l′ : List ℕ) (code : ℕ) (m : Compat) (t : List ℕ) → code < 65536 → IsShelf es l
+    → addCall code m t l ≡ accepted l′ → IsShelf (es ++ (entry code m t ∷ [])) l′
+shelf-added = ShelfLaws.shelf-added
+
+pub shelf-removed : {es : List Entry} {l : List ℕ} (l′ : List ℕ) (code : ℕ) → IsShelf es l → removeCall code l ≡ accepted l′ → IsShelf (withoutCode code es) l′
+shelf-removed = ShelfLaws.shelf-removed
+
+-- The listing gives the text that was added with the code, and first fit the code of the first entry whose text admits the version.
+pub shelf-listed : {es : List Entry} {l : List ℕ} (code : ℕ) → IsShelf es l → textCall code l ≡ orRefused 12 (textWith code es)
+shelf-listed = ShelfLaws.shelf-listed
+
+pub shelf-fits : {es : List Entry} {l : List ℕ} (q : Question) (s : List ℕ) → IsShelf es l
+    → firstFitCall q s l ≡ mapAnswer (λ v. firstEntry (λ e. admitsIf q v (reading (e .mode) (e .text))) es) (versionOf s)
+shelf-fits = ShelfLaws.shelf-fits
+
+-- ---- 3. In any memory, the place and the length that a listing gives are those of its text.
+
+pub listed-part : (code : ℕ) (l : List ℕ) (p : Part) → listCall code l ≡ accepted p → textCall code l ≡ accepted (take (p .length) (drop (p .place) l))
+listed-part = ListingLaws.listed-part
+
+-- ---- 4. The tables of examples: the calls on whole memories, also those that no call built.
+
+pub worked-changes : map changeAnswered changes ≡ map changeExpected changes
+worked-changes = Tables.tables .0
+
+pub worked-listings : map listingAnswered listings ≡ map listingExpected listings
+worked-listings = Tables.tables .1
+
+pub worked-fits : map fitAnswered fits ≡ map fitExpected fits
+worked-fits = Tables.tables .2

@@ -1,0 +1,168 @@
+-- Worked examples of the shelf's calls, with whole memories of 25,602 bytes. The theorems hold the definitions to them.
+-- Assumes nothing.
+use Prim.Native.Nat.{ℕ, _-_}
+use Prim.Native.String.{String}
+use mathlib.Core.Option.{Option, none, some}
+use mathlib.Core.List.{List, [], _∷_, _++_}
+use lib.ListN.{length, replicate}
+use Rattle.rules.specs.Bytes.{bytes}
+use Rattle.rules.specs.Expansion.{Compat, cargo, npm}
+use Rattle.rules.specs.Answers.{Answer, accepted, refused}
+use Rattle.rules.specs.Admission.{admits}
+use Rattle.shelf_rules.specs.Shelf.{shelfSize, emptyCall, addCall, removeCall, Part, listCall, textCall, firstFitCall}
+
+-- ---- memories
+
+-- these bytes first, and this one in all others
+abbrev pub memory : List ℕ → ℕ → List ℕ
+memory b c = b ++ replicate (shelfSize - length b) c
+
+-- 96 bytes: a text and zeros behind it
+abbrev pub filled : String → List ℕ
+filled s = bytes s ++ replicate (96 - length (bytes s)) 0
+
+-- two entries: code 7, Npm, `^1.2.3`; code 258 (its low byte 2, its high byte 1), Cargo, `2`
+abbrev pub row₁ : List ℕ
+row₁ = 7 ∷ 0 ∷ 1 ∷ 6 ∷ filled "^1.2.3"
+
+abbrev pub row₂ : List ℕ
+row₂ = 2 ∷ 1 ∷ 0 ∷ 1 ∷ filled "2"
+
+abbrev pub two : List ℕ
+two = memory (2 ∷ 0 ∷ (row₁ ++ row₂)) 0
+
+-- a count of 256, and as many entries of code 0 with empty texts
+abbrev pub full : List ℕ
+full = memory (0 ∷ 1 ∷ []) 0
+
+-- memory that no call built: one entry, of code 7, with a length of 97; with mode 2; with a refused text
+abbrev pub tooLong : List ℕ
+tooLong = memory (1 ∷ 0 ∷ 7 ∷ 0 ∷ 0 ∷ 97 ∷ []) 0
+
+abbrev pub otherMode : List ℕ
+otherMode = memory (1 ∷ 0 ∷ 7 ∷ 0 ∷ 2 ∷ []) 0
+
+abbrev pub noReading : List ℕ
+noReading = memory (1 ∷ 0 ∷ 7 ∷ 0 ∷ 1 ∷ 1 ∷ 33 ∷ []) 0
+
+-- two entries of code 7, with `1` and `2`, and bytes behind the count
+abbrev pub equalCodes : List ℕ
+equalCodes = memory (2 ∷ 0 ∷ ((7 ∷ 0 ∷ 1 ∷ 1 ∷ filled "1") ++ (7 ∷ 0 ∷ 1 ∷ 1 ∷ filled "2"))) 9
+
+-- ---- the calls that change a shelf
+
+pub data Change : Type 0 where
+  empty : Change
+  add : ℕ → Compat → String → Change
+  remove : ℕ → Change
+
+unfoldable pub changeCall : Change → List ℕ → Answer (List ℕ)
+unfolding emptyCall addCall removeCall
+changeCall empty l = emptyCall l
+changeCall (add code m t) l = addCall code m (bytes t) l
+changeCall (remove code) l = removeCall code l
+
+-- a memory, a call, and what it leaves or its refusal
+pub data Changed : Type 0 where
+  changed : List ℕ → Change → Answer (List ℕ) → Changed
+
+unfoldable pub changes : List Changed
+changes =
+    changed (memory [] 9) empty (accepted (memory [] 0))
+    ∷ changed (memory (1 ∷ 1 ∷ []) 9) empty (accepted (memory [] 0))
+    ∷ changed (replicate 25601 0) empty (refused 10)
+    ∷ changed (memory [] 0) (add 7 npm "^1.2.3") (accepted (memory (1 ∷ 0 ∷ row₁) 0))
+    ∷ changed (memory (1 ∷ 0 ∷ row₁) 0) (add 258 cargo "2") (accepted two)
+    ∷ changed (memory (0 ∷ 0 ∷ []) 9) (add 7 npm "^1.2.3") (accepted (memory (1 ∷ 0 ∷ row₁) 9))
+    ∷ changed (memory (0 ∷ 0 ∷ []) 9) (add 65535 npm "") (accepted (memory (1 ∷ 0 ∷ 255 ∷ 255 ∷ 1 ∷ 0 ∷ replicate 96 0) 9))
+    ∷ changed (replicate 25603 0) (add 7 npm "!") (refused 10)
+    ∷ changed (memory (1 ∷ 1 ∷ []) 0) (add 7 npm "!") (refused 10)
+    ∷ changed two (add 7 npm "                                                                                                 ") (refused 1)
+    ∷ changed two (add 7 npm "1a") (refused 2)
+    ∷ changed two (add 7 npm "18446744073709551616") (refused 3)
+    ∷ changed two (add 7 npm "18446744073709551615") (refused 4)
+    ∷ changed two (add 7 npm "1") (refused 12)
+    ∷ changed tooLong (add 7 npm "1") (refused 12)
+    ∷ changed full (add 0 npm "1") (refused 12)
+    ∷ changed full (add 9 npm "1") (refused 11)
+    ∷ changed full (add 9 npm "!") (refused 2)
+    ∷ changed two (remove 7) (accepted (memory (1 ∷ 0 ∷ row₂) 0))
+    ∷ changed two (remove 258) (accepted (memory (1 ∷ 0 ∷ row₁) 0))
+    ∷ changed (memory (1 ∷ 0 ∷ row₁) 0) (remove 7) (accepted (memory [] 0))
+    ∷ changed equalCodes (remove 7) (accepted (memory (1 ∷ 0 ∷ ((7 ∷ 0 ∷ 1 ∷ 1 ∷ filled "2") ++ replicate 100 0)) 9))
+    ∷ changed two (remove 8) (refused 12)
+    ∷ changed (memory (1 ∷ 1 ∷ []) 0) (remove 0) (refused 10)
+    ∷ []
+
+unfoldable pub changeAnswered : Changed → Answer (List ℕ)
+unfolding changeCall
+changeAnswered (changed l c a) = changeCall c l
+
+abbrev pub changeExpected : Changed → Answer (List ℕ)
+changeExpected (changed l c a) = a
+
+-- ---- the listing
+
+-- a memory, a code, and where its text stands and what it is, or the refusal
+pub data Listed : Type 0 where
+  listed : List ℕ → ℕ → ℕ → ℕ → String → Listed
+  unlisted : List ℕ → ℕ → ℕ → Listed
+
+unfoldable pub listings : List Listed
+listings =
+    listed two 7 6 6 "^1.2.3"
+    ∷ listed two 258 106 1 "2"
+    ∷ listed tooLong 7 6 0 ""
+    ∷ listed otherMode 7 6 0 ""
+    ∷ listed noReading 7 6 1 "!"
+    ∷ listed equalCodes 7 6 1 "1"
+    ∷ listed full 0 6 0 ""
+    ∷ unlisted two 2 12
+    ∷ unlisted equalCodes 2313 12
+    ∷ unlisted (memory (1 ∷ 1 ∷ []) 0) 0 10
+    ∷ unlisted [] 0 10
+    ∷ []
+
+pub record Listing : Type 0 where
+  pub part : Answer Part
+  pub text : Answer (List ℕ)
+
+unfoldable pub listingAnswered : Listed → Listing
+unfolding listCall textCall
+listingAnswered (listed l code place n t) = record { part = listCall code l; text = textCall code l }
+listingAnswered (unlisted l code n) = record { part = listCall code l; text = textCall code l }
+
+abbrev pub listingExpected : Listed → Listing
+listingExpected (listed l code place n t) = record { part = accepted (record { place = place; length = n }); text = accepted (bytes t) }
+listingExpected (unlisted l code n) = record { part = refused n; text = refused n }
+
+-- ---- first fit
+
+-- a memory, a version text, and the code, none, or the refusal
+pub data Fit : Type 0 where
+  fit : List ℕ → String → Answer (Option ℕ) → Fit
+
+unfoldable pub fits : List Fit
+fits =
+    fit two "1.5.0" (accepted (some 7))
+    ∷ fit two "2.5.0" (accepted (some 258))
+    ∷ fit two "3.0.0" (accepted none)
+    ∷ fit (memory [] 0) "1.0.0" (accepted none)
+    ∷ fit full "1.0.0" (accepted (some 0))
+    ∷ fit (memory (1 ∷ 0 ∷ 7 ∷ 0 ∷ 1 ∷ []) 0) "1.0.0" (accepted (some 7))
+    ∷ fit tooLong "1.0.0" (accepted none)
+    ∷ fit otherMode "1.0.0" (accepted none)
+    ∷ fit noReading "1.0.0" (accepted none)
+    ∷ fit equalCodes "2.0.0" (accepted (some 7))
+    ∷ fit two "3.0" (refused 8)
+    ∷ fit (memory [] 0) "18446744073709551616.0.0" (refused 9)
+    ∷ fit (memory (1 ∷ 1 ∷ []) 0) "3.0" (refused 10)
+    ∷ fit [] "3.0" (refused 10)
+    ∷ []
+
+unfoldable pub fitAnswered : Fit → Answer (Option ℕ)
+unfolding firstFitCall admits
+fitAnswered (fit l s a) = firstFitCall admits (bytes s) l
+
+abbrev pub fitExpected : Fit → Answer (Option ℕ)
+fitExpected (fit l s a) = a

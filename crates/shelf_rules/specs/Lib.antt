@@ -1,0 +1,5 @@
+pub mod Table
+pub mod Shelf
+pub mod Entries
+pub mod Exported
+pub mod Examples
