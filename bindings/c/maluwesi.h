@@ -48,6 +48,10 @@ uint64_t maluwesi_read(const uint8_t *text, size_t text_len, uint8_t mode,
                        uint64_t *words, size_t words_len, uint64_t *ids, size_t ids_len,
                        size_t *ranges, size_t *comparators, size_t *identifiers);
 
+/* Where in the text the bytes of a text identifier begin, and how many they are: place and len are the second and the third word of its row. Where
+ * they pass the end of the text, the empty part: 0 and 0. It never refuses. */
+void maluwesi_identifier_bytes(const uint8_t *text, size_t text_len, size_t place, size_t len, size_t *from, size_t *size);
+
 /* How long the normal text is, if so many bytes were lent for it. Refuses with 1 to 4 and 7. At most 8 * text_len + 7 are needed. */
 uint64_t maluwesi_normal_text_len(const uint8_t *text, size_t text_len, uint8_t mode, size_t lent, size_t *len);
 
@@ -58,6 +62,20 @@ uint64_t maluwesi_normal_text(const uint8_t *text, size_t text_len, uint8_t mode
 /* Whether the range text admits the version: 1 or 0 in admitted. Refuses with 1 to 4, 8 and 9. */
 uint64_t maluwesi_admit(const uint8_t *text, size_t text_len, uint8_t mode,
                         const uint8_t *version, size_t version_len, uint8_t *admitted);
+
+/* Writes the normal text under mode, from the start of out, and reads it under other: its counts and its rows, whose places are places in the normal
+ * text. They are the counts of the text itself, and the readings are equal. Refuses with 1 to 4 and 7 for the text, and with 1, 5 and 6 for its
+ * normal text; what is lent stays as it was then. */
+uint64_t maluwesi_read_normal_text(const uint8_t *text, size_t text_len, uint8_t mode, uint8_t other,
+                                   uint8_t *out, size_t out_len,
+                                   uint64_t *words, size_t words_len, uint64_t *ids, size_t ids_len,
+                                   size_t *ranges, size_t *comparators, size_t *identifiers);
+
+/* Whether the readings of two texts, each under its mode, are equal: 1 or 0 in equal. Writes both normal texts, from the start of out and of out2.
+ * Refuses with 1 to 4 and 7, for the first text before the second. */
+uint64_t maluwesi_equal_readings(const uint8_t *text, size_t text_len, uint8_t mode,
+                                 const uint8_t *text2, size_t text2_len, uint8_t mode2,
+                                 uint8_t *out, size_t out_len, uint8_t *out2, size_t out2_len, uint8_t *equal);
 
 #ifdef __cplusplus
 }

@@ -70,6 +70,45 @@ extern "C" {
         version_len: usize,
         admitted: *mut u8,
     ) -> u64;
+
+    fn maluwesi_identifier_bytes(
+        text: *const u8,
+        text_len: usize,
+        place: usize,
+        len: usize,
+        from: *mut usize,
+        size: *mut usize,
+    );
+
+    fn maluwesi_read_normal_text(
+        text: *const u8,
+        text_len: usize,
+        mode: u8,
+        other: u8,
+        out: *mut u8,
+        out_len: usize,
+        words: *mut u64,
+        words_len: usize,
+        ids: *mut u64,
+        ids_len: usize,
+        ranges: *mut usize,
+        comparators: *mut usize,
+        identifiers: *mut usize,
+    ) -> u64;
+
+    fn maluwesi_equal_readings(
+        text: *const u8,
+        text_len: usize,
+        mode: u8,
+        text2: *const u8,
+        text2_len: usize,
+        mode2: u8,
+        out: *mut u8,
+        out_len: usize,
+        out2: *mut u8,
+        out2_len: usize,
+        equal: *mut u8,
+    ) -> u64;
 }
 
 pub fn count(text: &[u8], compat: Compat) -> Result<Counts, Refusal> {
@@ -160,6 +199,77 @@ pub fn admit(text: &[u8], compat: Compat, version: &[u8]) -> Result<bool, Refusa
     accepted(number).map(|()| admitted == 1)
 }
 
+/// The bytes that an identifier's row names; none where they pass the end of the text.
+pub fn identifier_bytes(text: &[u8], place: usize, len: usize) -> &[u8] {
+    let (mut from, mut size) = (0, 0);
+    // SAFETY: the text is a slice with its length; from and size are locals.
+    unsafe {
+        maluwesi_identifier_bytes(text.as_ptr(), text.len(), place, len, &mut from, &mut size);
+    }
+    &text[from..][..size]
+}
+
+pub fn read_normal_text(
+    text: &[u8],
+    compat: Compat,
+    other: Compat,
+    out: &mut [u8],
+    comparators: &mut [ComparatorRow],
+    identifiers: &mut [IdentifierRow],
+) -> Result<Counts, Refusal> {
+    let words = comparators.as_flattened_mut();
+    let ids = identifiers.as_flattened_mut();
+    let mut counts = Counts::default();
+    // SAFETY: text, out, words and ids are slices, each with its length; out, words and ids are
+    // exclusive, and the counts are three fields of a local.
+    let number = unsafe {
+        maluwesi_read_normal_text(
+            text.as_ptr(),
+            text.len(),
+            mode(compat),
+            mode(other),
+            out.as_mut_ptr(),
+            out.len(),
+            words.as_mut_ptr(),
+            words.len(),
+            ids.as_mut_ptr(),
+            ids.len(),
+            &mut counts.ranges,
+            &mut counts.comparators,
+            &mut counts.identifiers,
+        )
+    };
+    accepted(number).map(|()| counts)
+}
+
+/// The texts with their modes, and the bytes lent for the normal text of each.
+pub fn equal_readings(
+    (text, compat): (&[u8], Compat),
+    (text2, compat2): (&[u8], Compat),
+    out: &mut [u8],
+    out2: &mut [u8],
+) -> Result<bool, Refusal> {
+    let mut equal = 0;
+    // SAFETY: the texts and the bytes lent are slices, each with its length; the texts are only
+    // read, so they may overlap; out and out2 are exclusive, and the answer is a local.
+    let number = unsafe {
+        maluwesi_equal_readings(
+            text.as_ptr(),
+            text.len(),
+            mode(compat),
+            text2.as_ptr(),
+            text2.len(),
+            mode(compat2),
+            out.as_mut_ptr(),
+            out.len(),
+            out2.as_mut_ptr(),
+            out2.len(),
+            &mut equal,
+        )
+    };
+    accepted(number).map(|()| equal == 1)
+}
+
 fn mode(compat: Compat) -> u8 {
     match compat {
         Compat::Cargo => 0,
@@ -173,4 +283,36 @@ fn accepted(number: u64) -> Result<(), Refusal> {
     }
     let refusal = Refusal::from_number(number);
     Err(refusal.expect("a call whose mode is 0 or 1 returns 0 to 9"))
+}
+
+#[cfg(test)]
+mod tests {
+    use super::identifier_bytes;
+
+    const TEXT: &[u8] = b"1.2.3-beta.4";
+
+    #[test]
+    fn the_part_that_is_named() {
+        assert_eq!(identifier_bytes(TEXT, 6, 4), b"beta");
+        assert_eq!(identifier_bytes(TEXT, 11, 1), b"4");
+        assert_eq!(identifier_bytes(TEXT, 0, 12), TEXT);
+    }
+
+    #[test]
+    fn nothing_past_the_end() {
+        for (place, len) in [
+            (11, 2),
+            (0, 13),
+            (12, 0),
+            (12, 1),
+            (13, 0),
+            (usize::MAX, 1),
+            (1, usize::MAX),
+            (usize::MAX, usize::MAX),
+            (6, usize::MAX - 5),
+        ] {
+            assert_eq!(identifier_bytes(TEXT, place, len), b"", "{place} {len}");
+        }
+        assert_eq!(identifier_bytes(b"", 0, 0), b"");
+    }
 }

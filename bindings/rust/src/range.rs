@@ -1,4 +1,4 @@
-use crate::calls::{ComparatorRow, IdentifierRow};
+use crate::calls::{identifier_bytes, ComparatorRow, IdentifierRow};
 use crate::{ascii, Compat};
 
 /// A version is in a range if it meets every comparator.
@@ -67,7 +67,9 @@ fn operator(code: u64) -> Op {
 fn identifier(text: &[u8], row: &IdentifierRow) -> Identifier {
     match *row {
         [0, number, _] => Identifier::Numeric(number),
-        [1, place, length] => Identifier::AlphaNumeric(ascii(&text[size(place)..][..size(length)])),
+        [1, place, len] => {
+            Identifier::AlphaNumeric(ascii(identifier_bytes(text, size(place), size(len))))
+        }
         _ => unreachable!("the library writes the identifiers' kinds, 0 and 1"),
     }
 }

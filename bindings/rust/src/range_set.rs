@@ -25,18 +25,38 @@ impl RangeSet {
     /// [`RangeSet::parse`] for bytes that need not be UTF-8. The grammar has ASCII bytes only, so
     /// a text with others is refused with [`Refusal::NoReading`], unless it is too long.
     pub fn parse_bytes(input: &[u8], compat: Compat) -> Result<Self, Refusal> {
-        let counts = calls::count(input, compat)?;
-        let mut comparators = vec![[0; calls::COMPARATOR_WORDS]; counts.comparators];
-        let mut identifiers = vec![[0; calls::IDENTIFIER_WORDS]; counts.identifiers];
-        calls::read(input, compat, &mut comparators, &mut identifiers)?;
+        let mut rows = Rows::new(calls::count(input, compat)?);
+        calls::read(input, compat, &mut rows.comparators, &mut rows.identifiers)?;
+        Ok(rows.range_set(input, compat))
+    }
+}
 
+/// The rows of a text, with the number of its ranges.
+pub(crate) struct Rows {
+    ranges: usize,
+    pub(crate) comparators: Vec<calls::ComparatorRow>,
+    pub(crate) identifiers: Vec<calls::IdentifierRow>,
+}
+
+impl Rows {
+    /// Zeros, as many as the counts say.
+    pub(crate) fn new(counts: calls::Counts) -> Rows {
+        Rows {
+            ranges: counts.ranges,
+            comparators: vec![[0; calls::COMPARATOR_WORDS]; counts.comparators],
+            identifiers: vec![[0; calls::IDENTIFIER_WORDS]; counts.identifiers],
+        }
+    }
+
+    /// The reading with these rows, which are those of the text.
+    pub(crate) fn range_set(&self, text: &[u8], compat: Compat) -> RangeSet {
         let empty = Range {
             comparator_set: Vec::new(),
             compat,
         };
-        let mut ranges = vec![empty; counts.ranges];
-        range::fill(&mut ranges, input, &comparators, &identifiers);
-        Ok(RangeSet { ranges, compat })
+        let mut ranges = vec![empty; self.ranges];
+        range::fill(&mut ranges, text, &self.comparators, &self.identifiers);
+        RangeSet { ranges, compat }
     }
 }
 

@@ -127,8 +127,8 @@ pub enum Admission {
     Refused(Refusal),
 }
 
-// The answer for a range text to which none of 1 to 4 applies.
-fn admit_version(s: &[u8], compat: Compat, first: Step, t: &[u8]) -> Admission
+// The answer for a range text to which none of 1 to 4 applies. Who asks for many versions decides that once.
+pub fn admit_version(s: &[u8], compat: Compat, first: Step, t: &[u8]) -> Admission
     requires { ⌜ Accepts (compatOf compat) (now s) ⌝ }
     requires { ⌜ first ≡ firstStep (compatOf compat) (now s) ⌝ }
     ensures { λ r. ⌜ answerOf r ≡ admissionCall (compatOf compat) (now (s .entry)) (now (t .entry)) ⌝ }

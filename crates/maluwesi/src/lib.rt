@@ -1,111 +1,30 @@
 // The calls as Rust and C make them (bindings/): a slice is passed as a pointer and a length, and the mode as a number. Each returns 0, or the
 // number of the refusal, and leaves the counts where it is told to. The names begin with the library's, since they are the whole program's.
 ghost use mathlib.Core.Path.{_≡_};
-ghost use lib.ListN.{length};
-ghost use Rattle.rules.specs.Answers.{reading, readingCall, readingOutcome, comparatorWordsAfter, identifierWordsAfter, normalTextCall, normalTextOutcome, bytesAfter};
+ghost use lib.ListN.{length, take, drop};
+ghost use Rattle.rules.specs.Answers.{reading, readingCall, readingOutcome, comparatorWordsAfter, identifierWordsAfter, identifierBytes, normalTextCall, normalTextOutcome, bytesAfter};
 ghost use Rattle.rules.specs.Admission.{admissionCall};
-ghost use Rattle.rules.specs.Exported.{modeOf, under, verdict};
-ghost use Rattle.rangeset.specs.Views.{outcomeOf};
-ghost use Rattle.normal_text.specs.Views.{lengthOf};
-ghost use Rattle.admission.specs.Views.{answerOf};
-ghost use Rattle.maluwesi.specs.Views.{modeIs, outcome, lengthIs, verdictIs};
-use admission::Admission;
+ghost use Rattle.rules.specs.Equality.{rereadCall, rereadOutcome, rereadBytesAfter, rereadComparatorsAfter, rereadIdentifiersAfter, textsCall, textsEqual, firstAfter, secondAfter};
+ghost use Rattle.rules.specs.Exported.{under, underBoth, verdict, partAt};
+ghost use Rattle.numbers.specs.Views.{outcome, lengthIs, verdictIs, partIs};
 use admission::admit;
-use normal_text::NormalText;
+use equality::equal_readings;
+use equality::read_normal_text;
 use normal_text::normal_text;
 use normal_text::normal_text_len;
-use range::Compat;
-use rangeset::Reading;
+use numbers::Mode;
+use numbers::Modes;
+use numbers::NO_MODE;
+use numbers::mode_of;
+use numbers::modes_of;
+use numbers::put_admitted;
+use numbers::put_counts;
+use numbers::put_equal;
+use numbers::put_length;
+use numbers::put_no_counts;
 use rangeset::count;
+use rangeset::identifier_bytes;
 use rangeset::read;
-
-// ---- the mode
-
-enum Mode {
-    Compat(Compat),
-    Nothing,
-}
-
-fn mode_of(number: u8) -> Mode
-    ensures { λ r. ⌜ modeIs r ≡ modeOf number ⌝ }
-{
-    match number {
-        0 => Mode::Compat(Compat::Cargo),
-        1 => Mode::Compat(Compat::Npm),
-        _ => Mode::Nothing,
-    }
-}
-
-// ---- the answers, as numbers
-
-// What is answered where the mode's number is none: no refusal of 01 has it.
-const NO_MODE: u64 = 255;
-
-fn put_no_counts(ranges: &mut usize, comparators: &mut usize, identifiers: &mut usize)
-    ensures { λ _. ⌜ now (ranges .exit) ≡ 0 ⌝ }
-    ensures comparators { λ _. ⌜ now (comparators .exit) ≡ 0 ⌝ }
-    ensures identifiers { λ _. ⌜ now (identifiers .exit) ≡ 0 ⌝ }
-{
-    *ranges = 0;
-    *comparators = 0;
-    *identifiers = 0;
-}
-
-fn put_counts(
-    r: Reading,
-    ranges: &mut usize,
-    comparators: &mut usize,
-    identifiers: &mut usize,
-) -> u64
-    ensures { λ n. ⌜ outcome n (now (ranges .exit)) (now (comparators .exit)) (now (identifiers .exit)) ≡ outcomeOf r ⌝ }
-{
-    match r {
-        Reading::Accepted(c) => {
-            *ranges = c.ranges;
-            *comparators = c.comparators;
-            *identifiers = c.identifiers;
-            0
-        }
-        Reading::Refused(refusal) => {
-            put_no_counts(ranges, comparators, identifiers);
-            refusal.number()
-        }
-    }
-}
-
-fn put_length(r: NormalText, len: &mut usize) -> u64
-    ensures { λ n. ⌜ lengthIs n (now (len .exit)) ≡ lengthOf r ⌝ }
-{
-    match r {
-        NormalText::Written(written) => {
-            *len = written;
-            0
-        }
-        NormalText::Refused(refusal) => {
-            *len = 0;
-            refusal.number()
-        }
-    }
-}
-
-fn put_admitted(r: Admission, admitted: &mut u8) -> u64
-    ensures { λ n. ⌜ verdictIs n (now (admitted .exit)) ≡ verdict (answerOf r) ⌝ }
-{
-    match r {
-        Admission::Yes => {
-            *admitted = 1;
-            0
-        }
-        Admission::No => {
-            *admitted = 0;
-            0
-        }
-        Admission::Refused(refusal) => {
-            *admitted = 0;
-            refusal.number()
-        }
-    }
-}
 
 // ---- the reading
 
@@ -148,6 +67,27 @@ pub extern "C" fn maluwesi_read(
     };
     let r = read(text, compat, words, ids);
     put_counts(r, ranges, comparators, identifiers)
+}
+
+// Where the identifier's bytes begin in the text, and how many they are. The empty part begins at 0. It never refuses.
+#[no_mangle]
+pub extern "C" fn maluwesi_identifier_bytes(
+    text: &[u8],
+    place: usize,
+    len: usize,
+    from: &mut usize,
+    size: &mut usize,
+)
+    ensures { λ _. ⌜ partIs (now (from .exit)) (now (size .exit)) ≡ partAt place (identifierBytes (now (text .entry)) place len) ⌝ }
+    ensures bytes { λ _. ⌜ take (now (size .exit)) (drop (now (from .exit)) (now (text .entry))) ≡ identifierBytes (now (text .entry)) place len ⌝ }
+{
+    let part = identifier_bytes(text, place, len);
+    *size = part.len();
+    if part.len() == 0 {
+        *from = 0;
+        return;
+    }
+    *from = place;
 }
 
 // ---- the normal text
@@ -200,4 +140,57 @@ pub extern "C" fn maluwesi_admit(text: &[u8], mode: u8, version: &[u8], admitted
         return NO_MODE;
     };
     put_admitted(admit(text, compat, version), admitted)
+}
+
+// ---- readings compared
+
+// Writes the normal text under the first mode, and reads it under the other.
+#[no_mangle]
+pub extern "C" fn maluwesi_read_normal_text(
+    text: &[u8],
+    mode: u8,
+    other: u8,
+    out: &mut [u8],
+    words: &mut [u64],
+    ids: &mut [u64],
+    ranges: &mut usize,
+    comparators: &mut usize,
+    identifiers: &mut usize,
+) -> u64
+    ensures { λ n. ⌜ outcome n (now (ranges .exit)) (now (comparators .exit)) (now (identifiers .exit)) ≡ rereadOutcome (underBoth mode other (λ m m′. rereadCall m m′ (now (text .entry)) (length (now (out .entry))) (length (now (words .entry))) (length (now (ids .entry))))) ⌝ }
+    ensures bytes { λ _. ⌜ now (out .exit) ≡ rereadBytesAfter (underBoth mode other (λ m m′. rereadCall m m′ (now (text .entry)) (length (now (out .entry))) (length (now (words .entry))) (length (now (ids .entry))))) (now (out .entry)) ⌝ }
+    ensures words { λ _. ⌜ now (words .exit) ≡ rereadComparatorsAfter (underBoth mode other (λ m m′. rereadCall m m′ (now (text .entry)) (length (now (out .entry))) (length (now (words .entry))) (length (now (ids .entry))))) (now (words .entry)) ⌝ }
+    ensures ids { λ _. ⌜ now (ids .exit) ≡ rereadIdentifiersAfter (underBoth mode other (λ m m′. rereadCall m m′ (now (text .entry)) (length (now (out .entry))) (length (now (words .entry))) (length (now (ids .entry))))) (now (ids .entry)) ⌝ }
+{
+    let ms = modes_of(mode, other);
+    let Modes::Compats(compat, second) = ms else {
+        put_no_counts(ranges, comparators, identifiers);
+        return NO_MODE;
+    };
+    let r = read_normal_text(text, compat, second, out, words, ids);
+    put_counts(r, ranges, comparators, identifiers)
+}
+
+// Whether the readings of two texts are equal: 1 or 0 in equal.
+#[no_mangle]
+pub extern "C" fn maluwesi_equal_readings(
+    text: &[u8],
+    mode: u8,
+    text2: &[u8],
+    mode2: u8,
+    out: &mut [u8],
+    out2: &mut [u8],
+    equal: &mut u8,
+) -> u64
+    ensures { λ n. ⌜ verdictIs n (now (equal .exit)) ≡ verdict (textsEqual (underBoth mode mode2 (λ m m′. textsCall m (now (text .entry)) (length (now (out .entry))) m′ (now (text2 .entry)) (length (now (out2 .entry)))))) ⌝ }
+    ensures first { λ _. ⌜ now (out .exit) ≡ firstAfter (underBoth mode mode2 (λ m m′. textsCall m (now (text .entry)) (length (now (out .entry))) m′ (now (text2 .entry)) (length (now (out2 .entry))))) (now (out .entry)) ⌝ }
+    ensures second { λ _. ⌜ now (out2 .exit) ≡ secondAfter (underBoth mode mode2 (λ m m′. textsCall m (now (text .entry)) (length (now (out .entry))) m′ (now (text2 .entry)) (length (now (out2 .entry))))) (now (out2 .entry)) ⌝ }
+{
+    let ms = modes_of(mode, mode2);
+    let Modes::Compats(compat, second) = ms else {
+        *equal = 0;
+        return NO_MODE;
+    };
+    let r = equal_readings(text, compat, text2, second, out, out2);
+    put_equal(r, equal)
 }

@@ -1,7 +1,7 @@
-use Rattle.maluwesi.proofs.Exporting.{modes}
+use Rattle.numbers.proofs.Numbering.{modes}
 use borrow.Author.Needs.{needs}
-use Rattle.maluwesi.proofs.mode_of.Statement.{statement}
-use Rattle.maluwesi.proofs.mode_of.Tie as tie
+use Rattle.numbers.proofs.mode_of.Statement.{statement}
+use Rattle.numbers.proofs.mode_of.Tie as tie
 
 pub mode-of-spec : {M : Type 1} → statement M
 mode-of-spec =

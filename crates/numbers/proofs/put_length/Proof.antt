@@ -1,7 +1,7 @@
-use Rattle.maluwesi.proofs.Exporting.{numbers}
+use Rattle.numbers.proofs.Numbering.{numbers}
 use borrow.Author.Needs.{needs}
-use Rattle.maluwesi.proofs.put_length.Statement.{statement}
-use Rattle.maluwesi.proofs.put_length.Tie as tie
+use Rattle.numbers.proofs.put_length.Statement.{statement}
+use Rattle.numbers.proofs.put_length.Tie as tie
 
 pub put-length-spec : {M : Type 1} → statement M
 put-length-spec =

@@ -3,16 +3,22 @@
 use Prim.Native.Nat.{ℕ}
 use Rattle.rules.specs.Answers.{Answer, accepted, refused, Outcome, Length}
 use Rattle.rules.specs.Expansion as E
-use Rattle.rules.specs.Exported.{Verdict}
+use Rattle.rules.specs.Exported.{Verdict, Part}
 use Rattle.range.specs.Views.{compatOf}
-use Rattle.maluwesi.specs.declared.Mode.{Mode}
-use Rattle.maluwesi.specs.declared.Mode.the-variants as Mode
+use Rattle.numbers.specs.declared.Mode.{Mode}
+use Rattle.numbers.specs.declared.Mode.the-variants as Mode
+use Rattle.numbers.specs.declared.Modes.{Modes}
+use Rattle.numbers.specs.declared.Modes.the-variants as Modes
 
 -- ---- the mode
 
 abbrev pub modeIs : Mode → Answer E.Compat
 modeIs (Mode.Compat m) = accepted (compatOf m)
 modeIs Mode.Nothing = refused 255
+
+abbrev pub modesAre : Modes → Answer (E.Compat × E.Compat)
+modesAre (Modes.Compats m m′) = accepted (compatOf m, compatOf m′)
+modesAre Modes.Nothing = refused 255
 
 -- ---- the answers
 
@@ -24,3 +30,6 @@ lengthIs n l = record { refusal = n; length = l }
 
 abbrev pub verdictIs : ℕ → ℕ → Verdict
 verdictIs n a = record { refusal = n; admitted = a }
+
+abbrev pub partIs : ℕ → ℕ → Part
+partIs a k = record { from = a; size = k }
