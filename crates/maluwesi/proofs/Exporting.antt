@@ -1,5 +1,5 @@
--- The calls under the modes with their numbers: what a function that is exported hands back, where each number is a mode and where one is none; and
--- the identifier bytes as a place and a size.
+-- The calls under the mode with a number: what a function that is exported hands back, where the number is a mode and where it is none; and the
+-- identifier bytes as a place and a size.
 -- Assumes nothing.
 use Prim.Native.Nat.{ℕ, zero, suc, _+_}
 use mathlib.Core.Path.{_≡_, refl, sym, ap, _∙_}
@@ -11,8 +11,7 @@ use lib.ListN.{length, take, drop}
 use Rattle.rules.specs.Bytes.{pick}
 use Rattle.rules.specs.Expansion as E
 use Rattle.rules.specs.Answers.{Answer, refused, readingOutcome, written, comparatorWordsAfter, identifierWordsAfter, identifierBytes, normalTextOutcome, bytesAfter, Outcome, Length}
-use Rattle.rules.specs.Equality.{Reread, rereadOutcome, rereadBytesAfter, rereadComparatorsAfter, rereadIdentifiersAfter, Texts, textsEqual, firstAfter, secondAfter}
-use Rattle.rules.specs.Exported.{modeOf, under, modesOf, underBoth, Verdict, verdict, partAt}
+use Rattle.rules.specs.Exported.{modeOf, under, Verdict, verdict, partAt}
 use Rattle.range.specs.Views.{compatOf}
 use Rattle.range.specs.declared.Compat.{Compat}
 use Rattle.rangeset.specs.Views.{outcomeOf}
@@ -21,19 +20,15 @@ use Rattle.normal_text.specs.Views.{lengthOf}
 use Rattle.normal_text.specs.declared.NormalText.{NormalText}
 use Rattle.admission.specs.Views.{answerOf}
 use Rattle.admission.specs.declared.Admission.{Admission}
-use Rattle.equality.specs.Views as Equal
-use Rattle.equality.specs.declared.Equality.{Equality}
-use Rattle.numbers.specs.Views.{modeIs, modesAre, outcome, lengthIs, verdictIs, partIs}
+use Rattle.numbers.specs.Views.{modeIs, outcome, lengthIs, verdictIs, partIs}
 use Rattle.numbers.specs.declared.Mode.{Mode}
-use Rattle.numbers.specs.declared.Mode.the-variants as One
-use Rattle.numbers.specs.declared.Modes.{Modes}
-use Rattle.numbers.specs.declared.Modes.the-variants as Both
+use Rattle.numbers.specs.declared.Mode.the-variants as Modes
 
 -- ---- a call under a mode
 
 module _ (k : ℕ) (m : Mode) (e : modeIs m ≡ modeOf k) where
   -- the number is a mode's: what the call hands back
-  module _ (c : Compat) (q : m ≡ One.Compat c) where
+  module _ (c : Compat) (q : m ≡ Modes.Compat c) where
     under-mode : {A : Type 0} (f : E.Compat → Answer A) → f (compatOf c) ≡ under k f
     unfolding under
     under-mode f = rw (sym (ap modeIs (sym q) ∙ e)) refl
@@ -59,7 +54,7 @@ module _ (k : ℕ) (m : Mode) (e : modeIs m ≡ modeOf k) where
     mode-verdict f r h x p = p ∙ ap verdict (h ∙ under-mode f)
 
   -- it is none: zero counts, and nothing that was lent changes
-  module _ (q : m ≡ One.Nothing) where
+  module _ (q : m ≡ Modes.Nothing) where
     under-none : {A : Type 0} (f : E.Compat → Answer A) → under k f ≡ refused 255
     unfolding under
     under-none f = rw (sym (ap modeIs (sym q) ∙ e)) refl
@@ -91,81 +86,6 @@ module _ (k : ℕ) (m : Mode) (e : modeIs m ≡ modeOf k) where
 pub ruleset known = (mode-counts, mode-words, mode-ids, mode-length, mode-bytes, mode-verdict)
 
 pub ruleset unknown = (none-counts, none-words, none-ids, none-length, none-bytes, none-verdict)
-
--- ---- a call under two modes
-
-module _ (k l : ℕ) (ms : Modes) (e : modesAre ms ≡ modesOf k l) where
-  -- both numbers are modes'
-  module _ (c c′ : Compat) (q : ms ≡ Both.Compats c c′) where
-    under-both : {A : Type 0} (f : E.Compat → E.Compat → Answer A) → f (compatOf c) (compatOf c′) ≡ underBoth k l f
-    unfolding underBoth
-    under-both f = rw (sym (ap modesAre (sym q) ∙ e)) refl
-
-    pub both-counts : (f : E.Compat → E.Compat → Answer Reread) (r : Reading) → outcomeOf r ≡ rereadOutcome (f (compatOf c) (compatOf c′))
-        → (x : Outcome) → x ≡ outcomeOf r → x ≡ rereadOutcome (underBoth k l f)
-    both-counts f r h x p = p ∙ h ∙ ap rereadOutcome (under-both f)
-
-    module _ (f : E.Compat → E.Compat → Answer Reread) (o x : List ℕ) where
-      pub both-bytes : x ≡ rereadBytesAfter (f (compatOf c) (compatOf c′)) o → x ≡ rereadBytesAfter (underBoth k l f) o
-      both-bytes p = p ∙ ap (λ a. rereadBytesAfter a o) (under-both f)
-
-      pub both-words : x ≡ rereadComparatorsAfter (f (compatOf c) (compatOf c′)) o → x ≡ rereadComparatorsAfter (underBoth k l f) o
-      both-words p = p ∙ ap (λ a. rereadComparatorsAfter a o) (under-both f)
-
-      pub both-ids : x ≡ rereadIdentifiersAfter (f (compatOf c) (compatOf c′)) o → x ≡ rereadIdentifiersAfter (underBoth k l f) o
-      both-ids p = p ∙ ap (λ a. rereadIdentifiersAfter a o) (under-both f)
-
-    pub both-verdict : (f : E.Compat → E.Compat → Answer Texts) (r : Equality) → Equal.answerOf r ≡ textsEqual (f (compatOf c) (compatOf c′))
-        → (x : Verdict) → x ≡ verdict (Equal.answerOf r) → x ≡ verdict (textsEqual (underBoth k l f))
-    both-verdict f r h x p = p ∙ ap verdict (h ∙ ap textsEqual (under-both f))
-
-    module _ (f : E.Compat → E.Compat → Answer Texts) (o x : List ℕ) where
-      pub both-first : x ≡ firstAfter (f (compatOf c) (compatOf c′)) o → x ≡ firstAfter (underBoth k l f) o
-      both-first p = p ∙ ap (λ a. firstAfter a o) (under-both f)
-
-      pub both-second : x ≡ secondAfter (f (compatOf c) (compatOf c′)) o → x ≡ secondAfter (underBoth k l f) o
-      both-second p = p ∙ ap (λ a. secondAfter a o) (under-both f)
-
-  -- one is none
-  module _ (q : ms ≡ Both.Nothing) where
-    under-neither : {A : Type 0} (f : E.Compat → E.Compat → Answer A) → underBoth k l f ≡ refused 255
-    unfolding underBoth
-    under-neither f = rw (sym (ap modesAre (sym q) ∙ e)) refl
-
-    pub neither-counts : (f : E.Compat → E.Compat → Answer Reread) (a b c : ℕ) → a ≡ 0 → b ≡ 0 → c ≡ 0
-        → outcome 255 a b c ≡ rereadOutcome (underBoth k l f)
-    unfolding rereadOutcome readingOutcome
-    neither-counts f a b c h i j = rw (under-neither f, h, i, j)
-
-    module _ (f : E.Compat → E.Compat → Answer Reread) (o : List ℕ) where
-      pub neither-bytes : o ≡ rereadBytesAfter (underBoth k l f) o
-      unfolding rereadBytesAfter written
-      neither-bytes = rw (under-neither f) refl
-
-      pub neither-words : o ≡ rereadComparatorsAfter (underBoth k l f) o
-      unfolding rereadComparatorsAfter written
-      neither-words = rw (under-neither f) refl
-
-      pub neither-ids : o ≡ rereadIdentifiersAfter (underBoth k l f) o
-      unfolding rereadIdentifiersAfter written
-      neither-ids = rw (under-neither f) refl
-
-    pub neither-verdict : (f : E.Compat → E.Compat → Answer Texts) → verdictIs 255 0 ≡ verdict (textsEqual (underBoth k l f))
-    unfolding verdict textsEqual
-    neither-verdict f = rw (under-neither f) refl
-
-    module _ (f : E.Compat → E.Compat → Answer Texts) (o : List ℕ) where
-      pub neither-first : o ≡ firstAfter (underBoth k l f) o
-      unfolding firstAfter written
-      neither-first = rw (under-neither f) refl
-
-      pub neither-second : o ≡ secondAfter (underBoth k l f) o
-      unfolding secondAfter written
-      neither-second = rw (under-neither f) refl
-
-pub ruleset both = (both-counts, both-bytes, both-words, both-ids, both-verdict, both-first, both-second)
-
-pub ruleset neither = (neither-counts, neither-bytes, neither-words, neither-ids, neither-verdict, neither-first, neither-second)
 
 -- ---- the identifier bytes
 

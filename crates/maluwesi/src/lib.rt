@@ -1,25 +1,20 @@
 // The calls as Rust and C make them (bindings/): a slice is passed as a pointer and a length, and the mode as a number. Each returns 0, or the
-// number of the refusal, and leaves the counts where it is told to. The names begin with the library's, since they are the whole program's.
+// number of the refusal, and leaves the counts where it is told to. The names begin with the library's, since they are the whole program's. The calls
+// that stand on these are exported by `maluwesi_equality`.
 ghost use mathlib.Core.Path.{_≡_};
 ghost use lib.ListN.{length, take, drop};
 ghost use Rattle.rules.specs.Answers.{reading, readingCall, readingOutcome, comparatorWordsAfter, identifierWordsAfter, identifierBytes, normalTextCall, normalTextOutcome, bytesAfter};
 ghost use Rattle.rules.specs.Admission.{admissionCall};
-ghost use Rattle.rules.specs.Equality.{rereadCall, rereadOutcome, rereadBytesAfter, rereadComparatorsAfter, rereadIdentifiersAfter, textsCall, textsEqual, firstAfter, secondAfter};
-ghost use Rattle.rules.specs.Exported.{under, underBoth, verdict, partAt};
+ghost use Rattle.rules.specs.Exported.{under, verdict, partAt};
 ghost use Rattle.numbers.specs.Views.{outcome, lengthIs, verdictIs, partIs};
 use admission::admit;
-use equality::equal_readings;
-use equality::read_normal_text;
 use normal_text::normal_text;
 use normal_text::normal_text_len;
 use numbers::Mode;
-use numbers::Modes;
 use numbers::NO_MODE;
 use numbers::mode_of;
-use numbers::modes_of;
 use numbers::put_admitted;
 use numbers::put_counts;
-use numbers::put_equal;
 use numbers::put_length;
 use numbers::put_no_counts;
 use rangeset::count;
@@ -140,57 +135,4 @@ pub extern "C" fn maluwesi_admit(text: &[u8], mode: u8, version: &[u8], admitted
         return NO_MODE;
     };
     put_admitted(admit(text, compat, version), admitted)
-}
-
-// ---- readings compared
-
-// Writes the normal text under the first mode, and reads it under the other.
-#[no_mangle]
-pub extern "C" fn maluwesi_read_normal_text(
-    text: &[u8],
-    mode: u8,
-    other: u8,
-    out: &mut [u8],
-    words: &mut [u64],
-    ids: &mut [u64],
-    ranges: &mut usize,
-    comparators: &mut usize,
-    identifiers: &mut usize,
-) -> u64
-    ensures { λ n. ⌜ outcome n (now (ranges .exit)) (now (comparators .exit)) (now (identifiers .exit)) ≡ rereadOutcome (underBoth mode other (λ m m′. rereadCall m m′ (now (text .entry)) (length (now (out .entry))) (length (now (words .entry))) (length (now (ids .entry))))) ⌝ }
-    ensures bytes { λ _. ⌜ now (out .exit) ≡ rereadBytesAfter (underBoth mode other (λ m m′. rereadCall m m′ (now (text .entry)) (length (now (out .entry))) (length (now (words .entry))) (length (now (ids .entry))))) (now (out .entry)) ⌝ }
-    ensures words { λ _. ⌜ now (words .exit) ≡ rereadComparatorsAfter (underBoth mode other (λ m m′. rereadCall m m′ (now (text .entry)) (length (now (out .entry))) (length (now (words .entry))) (length (now (ids .entry))))) (now (words .entry)) ⌝ }
-    ensures ids { λ _. ⌜ now (ids .exit) ≡ rereadIdentifiersAfter (underBoth mode other (λ m m′. rereadCall m m′ (now (text .entry)) (length (now (out .entry))) (length (now (words .entry))) (length (now (ids .entry))))) (now (ids .entry)) ⌝ }
-{
-    let ms = modes_of(mode, other);
-    let Modes::Compats(compat, second) = ms else {
-        put_no_counts(ranges, comparators, identifiers);
-        return NO_MODE;
-    };
-    let r = read_normal_text(text, compat, second, out, words, ids);
-    put_counts(r, ranges, comparators, identifiers)
-}
-
-// Whether the readings of two texts are equal: 1 or 0 in equal.
-#[no_mangle]
-pub extern "C" fn maluwesi_equal_readings(
-    text: &[u8],
-    mode: u8,
-    text2: &[u8],
-    mode2: u8,
-    out: &mut [u8],
-    out2: &mut [u8],
-    equal: &mut u8,
-) -> u64
-    ensures { λ n. ⌜ verdictIs n (now (equal .exit)) ≡ verdict (textsEqual (underBoth mode mode2 (λ m m′. textsCall m (now (text .entry)) (length (now (out .entry))) m′ (now (text2 .entry)) (length (now (out2 .entry)))))) ⌝ }
-    ensures first { λ _. ⌜ now (out .exit) ≡ firstAfter (underBoth mode mode2 (λ m m′. textsCall m (now (text .entry)) (length (now (out .entry))) m′ (now (text2 .entry)) (length (now (out2 .entry))))) (now (out .entry)) ⌝ }
-    ensures second { λ _. ⌜ now (out2 .exit) ≡ secondAfter (underBoth mode mode2 (λ m m′. textsCall m (now (text .entry)) (length (now (out .entry))) m′ (now (text2 .entry)) (length (now (out2 .entry))))) (now (out2 .entry)) ⌝ }
-{
-    let ms = modes_of(mode, mode2);
-    let Modes::Compats(compat, second) = ms else {
-        *equal = 0;
-        return NO_MODE;
-    };
-    let r = equal_readings(text, compat, text2, second, out, out2);
-    put_equal(r, equal)
 }

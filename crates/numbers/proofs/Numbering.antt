@@ -3,11 +3,7 @@
 use Prim.Native.Nat.{ℕ}
 use mathlib.Core.Path.{_≡_, refl, sym, ap, _∙_}
 use borrow.Author.Tests.{ne-eqb}
-use Rattle.rules.specs.Answers.{mapAnswer}
-use Rattle.rules.specs.Equality.{andThen}
-use Rattle.rules.specs.Exported.{modeOf, modesOf, verdict}
-use Rattle.range.specs.Views.{compatOf}
-use Rattle.range.specs.declared.Compat.{Compat}
+use Rattle.rules.specs.Exported.{modeOf, verdict}
 use Rattle.range.specs.declared.Compat.the-variants as Compat
 use Rattle.rangeset.specs.Views.{numberOf, outcomeOf}
 use Rattle.rangeset.specs.declared.Refusal.{Refusal}
@@ -19,13 +15,8 @@ use Rattle.normal_text.specs.declared.NormalText.the-variants as T
 use Rattle.admission.specs.Views.{answerOf}
 use Rattle.admission.specs.declared.Admission.{Admission}
 use Rattle.admission.specs.declared.Admission.the-variants as Admissions
-use Rattle.equality.specs.Views as E
-use Rattle.equality.specs.declared.Equality.{Equality}
-use Rattle.equality.specs.declared.Equality.the-variants as Equalities
-use Rattle.numbers.specs.Views.{modeIs, modesAre, outcome, lengthIs, verdictIs}
-use Rattle.numbers.specs.declared.Mode.{Mode}
+use Rattle.numbers.specs.Views.{modeIs, outcome, lengthIs, verdictIs}
 use Rattle.numbers.specs.declared.Mode.the-variants as Modes
-use Rattle.numbers.specs.declared.Modes.the-variants as Both
 
 -- ---- the mode
 
@@ -39,26 +30,6 @@ pub mode-none : (k : ℕ) → (k ≡ 0 → ⊥) → (k ≡ 1 → ⊥) → modeIs
 mode-none k e f = rw (ne-eqb k 0 e) (rw (ne-eqb k 1 f) refl)
 
 pub ruleset modes = (mode-cargo, mode-npm, mode-none)
-
--- ---- two modes
-
-module _ (k : ℕ) (m : Mode) (e : modeIs m ≡ modeOf k) (l : ℕ) where
-  pub first-none : m ≡ Modes.Nothing → modesAre Both.Nothing ≡ modesOf k l
-  first-none q = ap (λ a. andThen a (λ m. mapAnswer (λ m′. (m, m′)) (modeOf l))) (ap modeIs (sym q) ∙ e)
-
-  module _ (c : Compat) (q : m ≡ Modes.Compat c) (m′ : Mode) (e′ : modeIs m′ ≡ modeOf l) where
-    second : modesOf k l ≡ mapAnswer (λ m′. (compatOf c, m′)) (modeIs m′)
-    second =
-        ap (λ a. andThen a (λ m. mapAnswer (λ m′. (m, m′)) (modeOf l))) (sym (ap modeIs (sym q) ∙ e))
-        ∙ ap (mapAnswer (λ m′. (compatOf c, m′))) (sym e′)
-
-    pub second-none : m′ ≡ Modes.Nothing → modesAre Both.Nothing ≡ modesOf k l
-    second-none q′ = sym (second ∙ ap (λ x. mapAnswer (λ m′. (compatOf c, m′)) (modeIs x)) q′)
-
-    pub both-modes : (c′ : Compat) → m′ ≡ Modes.Compat c′ → modesAre (Both.Compats c c′) ≡ modesOf k l
-    both-modes c′ q′ = sym (second ∙ ap (λ x. mapAnswer (λ m′. (compatOf c, m′)) (modeIs x)) q′)
-
-pub ruleset pairs = (first-none, second-none, both-modes)
 
 -- ---- the answers
 
@@ -84,16 +55,4 @@ pub refused-admission : (r : Admission) (y : Refusal) (n : ℕ) → r ≡ Admiss
 unfolding verdict
 refused-admission r y n q e = rw q (ap (λ n. verdictIs n 0) e)
 
-pub said-equal : (r : Equality) → r ≡ Equalities.Equal → verdictIs 0 1 ≡ verdict (E.answerOf r)
-unfolding verdict
-said-equal r q = rw q refl
-
-pub said-different : (r : Equality) → r ≡ Equalities.Different → verdictIs 0 0 ≡ verdict (E.answerOf r)
-unfolding verdict
-said-different r q = rw q refl
-
-pub refused-equality : (r : Equality) (y : Refusal) (n : ℕ) → r ≡ Equalities.Refused y → n ≡ numberOf y → verdictIs n 0 ≡ verdict (E.answerOf r)
-unfolding verdict
-refused-equality r y n q e = rw q (ap (λ n. verdictIs n 0) e)
-
-pub ruleset numbers = (refused-counts, refused-length, said-yes, said-no, refused-admission, said-equal, said-different, refused-equality)
+pub ruleset numbers = (refused-counts, refused-length, said-yes, said-no, refused-admission)

@@ -7,18 +7,12 @@ use Rattle.rules.specs.Exported.{Verdict, Part}
 use Rattle.range.specs.Views.{compatOf}
 use Rattle.numbers.specs.declared.Mode.{Mode}
 use Rattle.numbers.specs.declared.Mode.the-variants as Mode
-use Rattle.numbers.specs.declared.Modes.{Modes}
-use Rattle.numbers.specs.declared.Modes.the-variants as Modes
 
 -- ---- the mode
 
 abbrev pub modeIs : Mode → Answer E.Compat
 modeIs (Mode.Compat m) = accepted (compatOf m)
 modeIs Mode.Nothing = refused 255
-
-abbrev pub modesAre : Modes → Answer (E.Compat × E.Compat)
-modesAre (Modes.Compats m m′) = accepted (compatOf m, compatOf m′)
-modesAre Modes.Nothing = refused 255
 
 -- ---- the answers
 

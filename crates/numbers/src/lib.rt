@@ -1,14 +1,12 @@
 // Modes and answers as numbers, for the functions that are exported: the mode with a number, and the answers left in the places that are given for
 // them, with 0 or the number of the refusal returned.
 ghost use mathlib.Core.Path.{_≡_};
-ghost use Rattle.rules.specs.Exported.{modeOf, modesOf, verdict};
+ghost use Rattle.rules.specs.Exported.{modeOf, verdict};
 ghost use Rattle.rangeset.specs.Views.{outcomeOf};
 ghost use Rattle.normal_text.specs.Views.{lengthOf};
 ghost use Rattle.admission.specs.Views.{answerOf};
-ghost use Rattle.equality.specs.Views.{answerOf as equalityOf};
-ghost use Rattle.numbers.specs.Views.{modeIs, modesAre, outcome, lengthIs, verdictIs};
+ghost use Rattle.numbers.specs.Views.{modeIs, outcome, lengthIs, verdictIs};
 use admission::Admission;
-use equality::Equality;
 use normal_text::NormalText;
 use range::Compat;
 use rangeset::Reading;
@@ -31,26 +29,6 @@ pub fn mode_of(number: u8) -> Mode
         1 => Mode::Compat(Compat::Npm),
         _ => Mode::Nothing,
     }
-}
-
-// The modes of a call that takes two.
-pub enum Modes {
-    Compats(Compat, Compat),
-    Nothing,
-}
-
-pub fn modes_of(number: u8, other: u8) -> Modes
-    ensures { λ r. ⌜ modesAre r ≡ modesOf number other ⌝ }
-{
-    let m = mode_of(number);
-    let Mode::Compat(compat) = m else {
-        return Modes::Nothing;
-    };
-    let o = mode_of(other);
-    let Mode::Compat(second) = o else {
-        return Modes::Nothing;
-    };
-    Modes::Compats(compat, second)
 }
 
 // ---- the answers
@@ -116,25 +94,6 @@ pub fn put_admitted(r: Admission, admitted: &mut u8) -> u64
         }
         Admission::Refused(refusal) => {
             *admitted = 0;
-            refusal.number()
-        }
-    }
-}
-
-pub fn put_equal(r: Equality, equal: &mut u8) -> u64
-    ensures { λ n. ⌜ verdictIs n (now (equal .exit)) ≡ verdict (equalityOf r) ⌝ }
-{
-    match r {
-        Equality::Equal => {
-            *equal = 1;
-            0
-        }
-        Equality::Different => {
-            *equal = 0;
-            0
-        }
-        Equality::Refused(refusal) => {
-            *equal = 0;
             refusal.number()
         }
     }

@@ -1,7 +1,7 @@
-use Rattle.maluwesi.proofs.Exporting.{both, neither}
+use Rattle.maluwesi_equality.proofs.Exporting.{both, neither}
 use borrow.Author.Needs.{needs}
-use Rattle.maluwesi.proofs.maluwesi_equal_readings.Statement.{statement}
-use Rattle.maluwesi.proofs.maluwesi_equal_readings.Tie as tie
+use Rattle.maluwesi_equality.proofs.maluwesi_equal_readings.Statement.{statement}
+use Rattle.maluwesi_equality.proofs.maluwesi_equal_readings.Tie as tie
 
 pub maluwesi-equal-readings-spec : {M : Type 1} → statement M
 maluwesi-equal-readings-spec =

@@ -1,7 +1,7 @@
-use Rattle.numbers.proofs.Numbering.{numbers}
+use Rattle.maluwesi_equality.proofs.Exporting.{numbers}
 use borrow.Author.Needs.{needs}
-use Rattle.numbers.proofs.put_equal.Statement.{statement}
-use Rattle.numbers.proofs.put_equal.Tie as tie
+use Rattle.maluwesi_equality.proofs.put_equal.Statement.{statement}
+use Rattle.maluwesi_equality.proofs.put_equal.Tie as tie
 
 pub put-equal-spec : {M : Type 1} → statement M
 put-equal-spec =

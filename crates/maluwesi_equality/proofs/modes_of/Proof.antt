@@ -1,7 +1,7 @@
-use Rattle.numbers.proofs.Numbering.{pairs}
+use Rattle.maluwesi_equality.proofs.Exporting.{pairs}
 use borrow.Author.Needs.{needs}
-use Rattle.numbers.proofs.modes_of.Statement.{statement}
-use Rattle.numbers.proofs.modes_of.Tie as tie
+use Rattle.maluwesi_equality.proofs.modes_of.Statement.{statement}
+use Rattle.maluwesi_equality.proofs.modes_of.Tie as tie
 
 pub modes-of-spec : {M : Type 1} → statement M
 modes-of-spec =

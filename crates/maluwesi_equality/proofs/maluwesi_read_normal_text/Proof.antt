@@ -1,7 +1,7 @@
-use Rattle.maluwesi.proofs.Exporting.{both, neither}
+use Rattle.maluwesi_equality.proofs.Exporting.{both, neither}
 use borrow.Author.Needs.{needs}
-use Rattle.maluwesi.proofs.maluwesi_read_normal_text.Statement.{statement}
-use Rattle.maluwesi.proofs.maluwesi_read_normal_text.Tie as tie
+use Rattle.maluwesi_equality.proofs.maluwesi_read_normal_text.Statement.{statement}
+use Rattle.maluwesi_equality.proofs.maluwesi_read_normal_text.Tie as tie
 
 pub maluwesi-read-normal-text-spec : {M : Type 1} → statement M
 maluwesi-read-normal-text-spec =
