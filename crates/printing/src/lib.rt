@@ -3,6 +3,7 @@ ghost use Prim.Native.Nat.{_≤_};
 ghost use lib.ListN.{length};
 use admission::Admission;
 use equality::Equality;
+use equality::Reread;
 use equality::read_normal_text;
 use normal_text::NormalText;
 use normal_text::normal_text;
@@ -44,6 +45,18 @@ pub fn put_counts(r: Reading) {
         Reading::Refused(refusal) => put_number(refusal.number()),
     }
     put(b"\n");
+}
+
+// The same; a refusal of the normal text, and not of the text, says so.
+pub fn put_reread(r: Reread) {
+    match r {
+        Reread::Accepted(counts) => put_counts(Reading::Accepted(counts)),
+        Reread::TextRefused(refusal) => put_counts(Reading::Refused(refusal)),
+        Reread::NormalRefused(refusal) => {
+            put(b" normal text");
+            put_counts(Reading::Refused(refusal));
+        }
+    }
 }
 
 // 01's number and the length.
@@ -142,7 +155,7 @@ pub fn show_read_again_end(
     let other = other_mode(compat);
     let n = at_most(lent, all.len());
     let out = &mut all[..n];
-    put_counts(read_normal_text(text, compat, other, out, words, &mut []));
+    put_reread(read_normal_text(text, compat, other, out, words, &mut []));
     put_last_bytes(out);
     put_last_words(words);
 }

@@ -13,8 +13,7 @@ use Rattle.rules.specs.Expansion as E
 use Rattle.rules.specs.Expansion.{Compat}
 use Rattle.rules.specs.Answers.{Answer, accepted, refused, longest, reading, comparatorRows, identifierRows, readingCall, readingOutcome, written, comparatorWordsAfter, identifierWordsAfter}
 use Rattle.rules.specs.Walk.{walkOf}
-use Rattle.rules.proofs.Accepted as A
-use Rattle.rules.proofs.Accepted.{Decided, decided}
+use Rattle.rules.proofs.Accepted.{reading-number}
 use Rattle.rules.proofs.ReadingCall.{tallied, reading-1, reading-2, reading-3, reading-4, reading-accepts, call-refused, call-5, call-6, call-accepts, call-counts}
 use Rattle.passes.specs.Views.{Accepts}
 use Rattle.rangeset.specs.Views.{counted, tallyOf, Writable, numberOf, outcomeOf}
@@ -98,15 +97,6 @@ pub record Counted (m : Compat) (s : List ℕ) (c : Counts) : Type 0 where
   pub identifiers : c .identifiers ≡ identifierRows reads
 
 -- no refusal has the number 0
-pub reading-number : (m : Compat) (s : List ℕ) (n : ℕ) → reading m s ≡ refused n → n ≡ 0 → ⊥
-reading-number m s n q = go (rw q at (decided m s))
-  where
-    go : {n : ℕ} → Decided m s (refused n) → n ≡ 0 → ⊥
-    go (A.long h) e = omega arith
-    go (A.underivable l u) e = omega arith
-    go (A.large l d f) e = omega arith
-    go (A.raised l d f g) e = omega arith
-
 pub refusal-number : (w : Refusal) → numberOf w ≡ 0 → ⊥
 refusal-number Refusals.TooLong e = omega arith
 refusal-number Refusals.NoReading e = omega arith

@@ -16,6 +16,7 @@ use Rattle.rules.specs.Answers.{accepted, reading, written, comparatorWordsAfte
 use Rattle.rules.specs.Walk as W
 use Rattle.rules.specs.Walk.{goesOn, opening, push, pieceComparatorWords, pieceIdentifierWords, walkComparatorWords, walkIdentifierWords}
 use Rattle.rules.proofs.WalkWords.{expand-words, expand-names-words}
+use Rattle.rules.proofs.RowsLaws.{words-length, names-length}
 use Rattle.partial.proofs.Unread.{Rest}
 use Rattle.walk.specs.Views.{stageOf, stepAt}
 use Rattle.walk.specs.declared.Stage.{Stage}
@@ -29,7 +30,7 @@ use Rattle.passes.proofs.Passing.{Passing, starting, Passes, passes, passes-few
 use Rattle.passes.proofs.Due.{Due, due-first}
 use Rattle.passes.proofs.Folds.{todo, nextAt, todo-next, todo-end, todo-push}
 use Rattle.rangeset.specs.Views.{stepComparatorWords, stepIdentifierWords, Writable}
-use Rattle.rangeset.proofs.Words.{step-words, step-names, words-length, names-length}
+use Rattle.rangeset.proofs.Words.{step-words, step-names}
 
 -- ---- the words that are still to be written
 

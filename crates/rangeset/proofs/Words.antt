@@ -1,18 +1,15 @@
--- The words of a step are those of its piece, and how many words a reading has.
+-- The words of a step are those of its piece.
 -- Assumes nothing.
-use Prim.Native.Nat.{ℕ, suc, _*_}
-use native.Mathlib.Nat.{mul-zero, mul-suc}
-use native.Mathlib.Omega.{arith}
+use Prim.Native.Nat.{ℕ}
 use mathlib.Core.Path.{_≡_, refl, sym, ap, ap₂, _∙_}
-use mathlib.Core.List.{List, [], _∷_, _++_, map}
-use lib.ListN.{length, length-append}
+use mathlib.Core.List.{List, _++_, map}
+use lib.ListN.{length}
 use Rattle.rules.specs.Lists.{concat}
 use Rattle.rules.specs.Syntax as S
 use Rattle.rules.specs.Syntax.{identifiersOf}
 use Rattle.rules.specs.Expansion as E
 use Rattle.rules.specs.Expansion.{Piece, piece, partialIn, comparators}
-use Rattle.rules.specs.Rows.{comparatorRow, rowsFrom, comparatorWords, identifierRow, allIdentifiers, identifierWords}
-use Rattle.rules.specs.Answers.{comparatorRows, identifierRows}
+use Rattle.rules.specs.Rows.{comparatorRow, identifierRow}
 use Rattle.rules.specs.Walk.{pieceComparatorWords, pieceIdentifierWords}
 use Rattle.rules.proofs.WalkWords.{concat-map-append}
 use Rattle.range.specs.declared.Kept.{Kept}
@@ -58,39 +55,3 @@ module _ (s : List ℕ) (x : Step) (y : Piece) (i : stepIdentifiers s x ≡ iden
     where
       of-piece : (y : Piece) → concat (map (identifierRow (length s)) (identifiersOf (partialIn y))) ≡ pieceIdentifierWords (length s) y
       of-piece (piece o c p) = refl
-
--- ---- how many words there are
-
--- rows of one width
-rows-length : {A : Type 0} (n : ℕ) (f : A → List ℕ) → ((a : A) → length (f a) ≡ n) → (l : List A) → length (concat (map f l)) ≡ n * length l
-rows-length n f h [] = rw mul-zero
-rows-length n f h (a ∷ l) = omega (arith, length-append (f a) (concat (map f l)), h a, rows-length n f h l, mul-suc n (length l))
-
-row-six : (k : ℕ) (c : E.Comparator) → length (comparatorRow k c) ≡ 6
-unfolding comparatorRow
-row-six k (E.comparator o a b c is) = refl
-
-row-three : (n : ℕ) (i : S.Identifier) → length (identifierRow n i) ≡ 3
-unfolding identifierRow
-row-three n (S.number v) = refl
-row-three n (S.text left w) = refl
-
-ranges-length : (k : ℕ) (rs : E.Reading) → length (rowsFrom k rs) ≡ 6 * length (concat rs)
-unfolding rowsFrom
-ranges-length k [] = refl
-ranges-length k (cs ∷ rs) =
-    omega (
-      arith,
-      length-append (rowsOf k cs) (rowsFrom (suc k) rs),
-      rows-length 6 (comparatorRow k) (row-six k) cs,
-      ranges-length (suc k) rs,
-      length-append cs (concat rs),
-    )
-
-pub words-length : (rs : E.Reading) → length (comparatorWords rs) ≡ 6 * comparatorRows rs
-unfolding comparatorWords
-words-length rs = ranges-length 0 rs
-
-pub names-length : (n : ℕ) (rs : E.Reading) → length (identifierWords n rs) ≡ 3 * identifierRows rs
-unfolding identifierWords identifierRows
-names-length n rs = rows-length 3 (identifierRow n) (row-three n) (allIdentifiers rs)

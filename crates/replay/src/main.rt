@@ -36,6 +36,7 @@ use printing::put_counts;
 use printing::put_equality;
 use printing::put_length;
 use printing::put_line;
+use printing::put_reread;
 use printing::put_words;
 use printing::show_end;
 use printing::show_read_again_end;
@@ -65,7 +66,7 @@ fn show_read_again(
     ids: &mut [u64],
 ) {
     let other = other_mode(compat);
-    put_counts(read_normal_text(text, compat, other, out, words, ids));
+    put_reread(read_normal_text(text, compat, other, out, words, ids));
     put_line(out);
     put_words(words);
     put_words(ids);

@@ -13,7 +13,7 @@ use lib.ListN.{length, length-append, length-map}
 use Rattle.rules.specs.Lists.{concat}
 use Rattle.rules.specs.Expansion.{Compat, Comparator, comparator, Reading}
 use Rattle.rules.specs.Rows.{identifiersIn, allIdentifiers, placeless, placelessComparator, placelessReading}
-use Rattle.rules.specs.Answers.{accepted, reading, comparatorRows, identifierRows, normalText}
+use Rattle.rules.specs.Answers.{accepted, reading, comparatorRows, identifierRows, readingOutcome, normalText}
 use Rattle.rules.specs.Equality.{sameBytes}
 use Rattle.rules.proofs.Follows.{both}
 use Rattle.rules.proofs.NormalTextCall.{normal-reading}
@@ -78,3 +78,11 @@ placeless-identifiers rs ss e = sym (count rs) ∙ ap (λ x. length (concat (map
     count : (rs : Reading) → length (concat (map identifiersIn (concat (map (map placelessComparator) rs)))) ≡ length (concat (map identifiersIn (concat rs)))
     count [] = refl
     count (cs ∷ rs) = range cs (concat (map (map placelessComparator) rs)) (concat rs) (count rs)
+
+-- so they have the same counts
+pub same-counts : (rs ss : Reading) → placelessReading rs ≡ placelessReading ss → readingOutcome (accepted rs) ≡ readingOutcome (accepted ss)
+unfolding readingOutcome placelessReading
+same-counts rs ss e = rw (ranges, placeless-comparators rs ss e, placeless-identifiers rs ss e)
+  where
+    ranges : length rs ≡ length ss
+    ranges = sym (length-map rs (map placelessComparator)) ∙ ap length e ∙ length-map ss (map placelessComparator)

@@ -5,6 +5,9 @@ pub mod Complete
 pub mod Accepted
 pub mod All
 pub mod Pieces
+pub mod Pairwise
+pub mod Exceeded
+pub mod HighBytes
 pub mod Raised
 pub mod Tables
 pub mod Unread
@@ -14,11 +17,11 @@ pub mod Places
 pub mod Nonempty
 pub mod ReadBackLaws
 pub mod Decimal
-pub mod Pairwise
 pub mod Spelling
 pub mod NormalTextCall
 pub mod RoundTrip
 pub mod Equal
+pub mod RowsLaws
 pub mod Left
 pub mod Repeat
 pub mod Heads
@@ -30,6 +33,7 @@ pub mod WalkLaws
 pub mod StepNames
 pub mod Tallies
 pub mod ReadingCall
+pub mod HandedBack
 pub mod WalkWords
 pub mod WalkText
 pub mod Source
@@ -40,4 +44,5 @@ pub mod PrecedenceLaws
 pub mod AdmissionLaws
 pub mod Bound
 pub mod PlainformLaws
+pub mod AdmitsLaws
 pub mod Theorems

@@ -1,5 +1,5 @@
 -- Versions with their precedence, and range texts with the versions that they admit, worked by hand from 01 and from Semantic Versioning
--- 2.0.0. Theorems 10 and 11 hold the definitions to them.
+-- 2.0.0. Theorems 11 and 12 hold the definitions to them.
 -- Assumes nothing.
 use Prim.Native.String.{String}
 use mathlib.Core.Bool.{Bool, true, false}
@@ -77,6 +77,9 @@ ends =
     ∷ admission both "<2.0.0" "2.0.0" no
     ∷ admission both ">1.2.3-a" "1.2.3-a" no
     ∷ admission both ">1.2.3-a" "1.2.3-a.0" yes
+    ∷ admission both "=1.2.3" "1.2.2" no
+    ∷ admission both "=1.2.3" "1.2.4" no
+    ∷ admission both "<=1.2.3" "1.2.2" yes
     ∷ admission both "<=1.2.3-a" "1.2.3-a" yes
     ∷ admission both "<=1.2.3-a" "1.2.3-a.0" no
     ∷ admission both "1.2.3 - 2.3" "2.3.9" yes
@@ -128,6 +131,9 @@ refusals =
     ∷ admission both "" "1.0.x" (refused 8)
     ∷ admission both "" "01.0.0" (refused 8)
     ∷ admission both "" "v1.0.0" (refused 8)
+    ∷ admission both "" "=1.0.0" (refused 8)
+    ∷ admission both "" "1. 0.0" (refused 8)
+    ∷ admission both "" "1.0.0\n" (refused 8)
     ∷ admission both "" " 1.0.0" (refused 8)
     ∷ admission both "" "1.0.0 " (refused 8)
     ∷ admission both "" "1.0.0-" (refused 8)

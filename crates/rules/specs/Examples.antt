@@ -1,4 +1,5 @@
--- Texts with their normal text or refusal: the bench sheet of 01, and further worked examples. Theorems 3 and 4 hold the definitions to them.
+-- Texts with their normal text or refusal: the bench sheet of 01, and further worked examples, by subject. Theorems 3 and 4 hold the definitions to
+-- them.
 -- Assumes nothing.
 use Prim.Native.Nat.{ℕ}
 use Prim.Native.String.{String}
@@ -84,6 +85,102 @@ edges =
     ∷ example (npm ∷ []) "1.2.3 || >1, <=1.2" (accepted "=1.2.3 || >1.0.0 <1.3.0")
     ∷ []
 
+-- 3 for each component of a partial and each side of a hyphen range; 4 for each component that is raised
+unfoldable pub large : List Example
+large =
+    example both "1.18446744073709551616" (refused 3)
+    ∷ example both "1.2.18446744073709551616" (refused 3)
+    ∷ example both "1 - 18446744073709551616" (refused 3)
+    ∷ example both "18446744073709551616 - 1" (refused 3)
+    ∷ example both "1 || 18446744073709551616" (refused 3)
+    ∷ example both "1.18446744073709551615" (refused 4)
+    ∷ example both "^0.0.18446744073709551615" (refused 4)
+    ∷ example both "~1.18446744073709551615.0" (refused 4)
+    ∷ example both "<=18446744073709551615" (refused 4)
+    ∷ example both "1 || <=1.18446744073709551615" (refused 4)
+    ∷ []
+
+-- each operator, tilde and caret on what is partly read: on XRangeOnly, on one component, on two, and carets and tildes on zeros
+unfoldable pub partlyRead : List Example
+partlyRead =
+    example both "<*" (accepted "<0.0.0")
+    ∷ example both "<1" (accepted "<1.0.0")
+    ∷ example both "<1.2" (accepted "<1.2.0")
+    ∷ example both "<=1" (accepted "<2.0.0")
+    ∷ example both ">1.2" (accepted ">1.2.0")
+    ∷ example both ">=*" (accepted ">=0.0.0")
+    ∷ example both ">=1" (accepted ">=1.0.0")
+    ∷ example both ">=1.2" (accepted ">=1.2.0")
+    ∷ example both "=*" (accepted ">=0.0.0")
+    ∷ example both "=1" (accepted ">=1.0.0 <2.0.0")
+    ∷ example both "=1.2" (accepted ">=1.2.0 <1.3.0")
+    ∷ example both "~*" (accepted ">=0.0.0")
+    ∷ example both "~0.0.3" (accepted ">=0.0.3 <0.1.0")
+    ∷ example both "~>1.2.3" (accepted ">=1.2.3 <1.3.0")
+    ∷ example both "^*" (accepted ">=0.0.0")
+    ∷ example both "^0" (accepted ">=0.0.0 <1.0.0")
+    ∷ example both "^0.1" (accepted ">=0.1.0 <0.2.0")
+    ∷ example both "^1.0" (accepted ">=1.0.0 <2.0.0")
+    ∷ example both "^1.0.0" (accepted ">=1.0.0 <2.0.0")
+    ∷ example both "^0.0.0" (accepted ">=0.0.0 <0.0.1")
+    ∷ example (cargo ∷ []) "0.2.3" (accepted ">=0.2.3 <0.3.0")
+    ∷ example both "x.1.2-a" (accepted ">=0.0.0")
+    ∷ example both "1.2 - x" (accepted ">=1.2.0")
+    ∷ example both "x - 1.2.3" (accepted "<=1.2.3")
+    ∷ example both "1.2.3-a - x.2.3-b" (accepted ">=1.2.3-a")
+    ∷ []
+
+-- spaces, tabs, commas and bars
+unfoldable pub spaced : List Example
+spaced =
+    example both "  " (accepted ">=0.0.0")
+    ∷ example both "<  1" (accepted "<1.0.0")
+    ∷ example both "~ \t1" (accepted ">=1.0.0 <2.0.0")
+    ∷ example both "^  1" (accepted ">=1.0.0 <2.0.0")
+    ∷ example both "1 \t-  2" (accepted ">=1.0.0 <3.0.0")
+    ∷ example both "1  2" (accepted ">=1.0.0 <2.0.0 >=2.0.0 <3.0.0")
+    ∷ example both "1,\t 2" (accepted ">=1.0.0 <2.0.0 >=2.0.0 <3.0.0")
+    ∷ example (cargo ∷ []) "1 2.3.4" (accepted ">=1.0.0 <2.0.0 >=2.3.4 <3.0.0")
+    ∷ example both "1||2" (accepted ">=1.0.0 <2.0.0 || >=2.0.0 <3.0.0")
+    ∷ example both "1  ||\t 2" (accepted ">=1.0.0 <2.0.0 || >=2.0.0 <3.0.0")
+    ∷ example both "|| 1 ||" (accepted ">=0.0.0 || >=1.0.0 <2.0.0 || >=0.0.0")
+    ∷ []
+
+-- texts that have no reading: marks of other tools, and a byte that is missing, doubled or in the wrong place
+unfoldable pub unread : List Example
+unread =
+    example both "?" (refused 2)
+    ∷ example both "v1" (refused 2)
+    ∷ example both "!=1" (refused 2)
+    ∷ example both "==1" (refused 2)
+    ∷ example both "=>1" (refused 2)
+    ∷ example both "~=1" (refused 2)
+    ∷ example both "<" (refused 2)
+    ∷ example both "1." (refused 2)
+    ∷ example both "1.2." (refused 2)
+    ∷ example both ".1" (refused 2)
+    ∷ example both "1.2.3-" (refused 2)
+    ∷ example both "1.2.3-a." (refused 2)
+    ∷ example both "1.2.3-a..b" (refused 2)
+    ∷ example both "1.2.3-01" (refused 2)
+    ∷ example both "1.2.3_a" (refused 2)
+    ∷ example both "1+a" (refused 2)
+    ∷ example both "1.2+a" (refused 2)
+    ∷ example both "1, " (refused 2)
+    ∷ example both ", 1" (refused 2)
+    ∷ example both "1,, 2" (refused 2)
+    ∷ example both "1; 2" (refused 2)
+    ∷ example both "1 -- 2" (refused 2)
+    ∷ example both "1 - 2 - 3" (refused 2)
+    ∷ example both "1 - <2" (refused 2)
+    ∷ example both ">=1 - 2" (refused 2)
+    ∷ example both "~1 - 2" (refused 2)
+    ∷ example both "^1 - 2" (refused 2)
+    ∷ example both "1, || 2" (refused 2)
+    ∷ example both "1 ||| 2" (refused 2)
+    ∷ example both "1\n" (refused 2)
+    ∷ []
+
 -- node-semver's README (edition 7.3.5), "Ranges", "Hyphen Ranges", "X-Ranges", "Tilde Ranges" and "Caret Ranges": examples on which 01 agrees
 -- with it (for the tildes, with the form that it writes first, as `>=1.2.3 <1.(2+1).0`)
 unfoldable pub nodeReadme : List Example
@@ -132,8 +229,8 @@ nodeReadmeUpper =
 
 -- the second table
 unfoldable pub worked : List Example
-unfolding misreadings edges nodeReadme nodeReadmeUpper
-worked = misreadings ++ (edges ++ (nodeReadme ++ nodeReadmeUpper))
+unfolding misreadings edges large partlyRead spaced unread nodeReadme nodeReadmeUpper
+worked = misreadings ++ (edges ++ (large ++ (partlyRead ++ (spaced ++ (unread ++ (nodeReadme ++ nodeReadmeUpper))))))
 
 -- Texts with the words of their rows under both modes: comparator rows, then identifier rows.
 pub data Rows : Type 0 where
@@ -154,6 +251,13 @@ workedRows =
     ∷ []
 
 -- ---- what a table says, and what the definitions say
+
+-- of a row that has both: what the definitions say, and what the table does
+abbrev pub said : {A : Type 0} → A × A → A
+said row = row .0
+
+abbrev pub given : {A : Type 0} → A × A → A
+given row = row .1
 
 abbrev pub expected : Example → List (Answer (List ℕ))
 expected (example ms t a) = map (λ m. mapAnswer bytes a) ms

@@ -19,3 +19,6 @@ pub mod Admits
 pub mod Exported
 pub mod Examples
 pub mod AdmissionExamples
+pub mod CallExamples
+pub mod ByteExamples
+pub mod LimitExamples

@@ -1,4 +1,4 @@
--- The reading, had back from the text and the words of its rows: what a caller holds after the reading call. Cited by theorem 7 and by `Restores` (Equality.antt).
+-- The reading, had back from the text and the words of its rows: what a caller holds after the reading call. Cited by theorem 7 and by `handedBack` (Equality.antt).
 -- Assumes nothing.
 use Prim.Native.Nat.{ℕ, zero, suc, _-_}
 use mathlib.Core.List.{List, [], _∷_, map}
