@@ -20,6 +20,7 @@
 //! ```
 
 mod calls;
+pub mod ffi;
 mod range;
 mod range_set;
 mod refusal;
