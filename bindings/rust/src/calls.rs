@@ -4,7 +4,7 @@
 //! they are empty; a slice has its own length; and a `&mut` overlaps nothing.
 
 use crate::ffi;
-use crate::{Compat, Refusal};
+use crate::{Compat, Refusal, RereadRefusal};
 
 pub const COMPARATOR_WORDS: usize = 6;
 pub const IDENTIFIER_WORDS: usize = 3;
@@ -126,12 +126,13 @@ pub fn read_normal_text(
     out: &mut [u8],
     comparators: &mut [ComparatorRow],
     identifiers: &mut [IdentifierRow],
-) -> Result<Counts, Refusal> {
+) -> Result<Counts, RereadRefusal> {
     let words = comparators.as_flattened_mut();
     let ids = identifiers.as_flattened_mut();
     let mut counts = Counts::default();
+    let mut normal = 0;
     // SAFETY: text, out, words and ids are slices, each with its length; out, words and ids are
-    // exclusive, and the counts are three fields of a local.
+    // exclusive, and normal and the counts are locals.
     let number = unsafe {
         ffi::maluwesi_read_normal_text(
             text.as_ptr(),
@@ -144,12 +145,18 @@ pub fn read_normal_text(
             words.len(),
             ids.as_mut_ptr(),
             ids.len(),
+            &mut normal,
             &mut counts.ranges,
             &mut counts.comparators,
             &mut counts.identifiers,
         )
     };
-    accepted(number).map(|()| counts)
+    let refused = if normal == 1 {
+        RereadRefusal::NormalText
+    } else {
+        RereadRefusal::Text
+    };
+    accepted(number).map(|()| counts).map_err(refused)
 }
 
 /// The texts with their modes, and the bytes lent for the normal text of each.

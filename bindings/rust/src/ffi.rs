@@ -73,6 +73,7 @@ extern "C" {
         words_len: usize,
         ids: *mut u64,
         ids_len: usize,
+        normal: *mut u8,
         ranges: *mut usize,
         comparators: *mut usize,
         identifiers: *mut usize,

@@ -3,7 +3,7 @@
 use Prim.Native.Nat.{ℕ}
 use Rattle.rules.specs.Answers.{Answer, accepted, refused, Outcome, Length}
 use Rattle.rules.specs.Expansion as E
-use Rattle.rules.specs.Exported.{Verdict, Part}
+use Rattle.rules.specs.Exported.{Verdict, Span}
 use Rattle.range.specs.Views.{compatOf}
 use Rattle.numbers.specs.declared.Mode.{Mode}
 use Rattle.numbers.specs.declared.Mode.the-variants as Mode
@@ -23,7 +23,7 @@ abbrev pub lengthIs : ℕ → ℕ → Length
 lengthIs n l = record { refusal = n; length = l }
 
 abbrev pub verdictIs : ℕ → ℕ → Verdict
-verdictIs n a = record { refusal = n; admitted = a }
+verdictIs n a = record { refusal = n; yes = a }
 
-abbrev pub partIs : ℕ → ℕ → Part
+abbrev pub partIs : ℕ → ℕ → Span
 partIs a k = record { from = a; size = k }
