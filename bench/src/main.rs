@@ -81,12 +81,13 @@ fn least(a: Option<f64>, b: Option<f64>) -> Option<f64> {
     a.into_iter().chain(b).reduce(f64::min)
 }
 
-/// The machine may run at another speed for a while, so all is measured in several sweeps, and the best is kept.
+/// The machine may run at another speed for a while, so all is measured in several sweeps, and the best is kept. Standard error has a line for each.
 fn print_times() {
     let acts = acts();
     let each: Vec<(&Act, &Text)> = acts.iter().flat_map(|act| act.texts.iter().map(move |text| (act, text))).collect();
     let mut found: Vec<Vec<Option<f64>>> = each.iter().map(|(act, _)| vec![None; act.peers.len()]).collect();
-    for _ in 0..SWEEPS {
+    for sweep in 1..=SWEEPS {
+        eprintln!("times, sweep {sweep} of {SWEEPS}");
         for ((act, text), found) in each.iter().zip(&mut found) {
             for (found, took) in found.iter_mut().zip(best(act.peers, &text.text)) {
                 *found = least(*found, took);

@@ -1,26 +1,8 @@
 //! The shelf's acts, ours alone: first fit over 256 entries of the text, none of which fits, and the add of the text to 255.
 
+use maluwesi::ffi;
 use crate::peers::{Lent, Peer, CARGO};
 use std::cell::UnsafeCell;
-
-extern "C" {
-    fn maluwesi_shelf_add(
-        shelf: *mut u8,
-        shelf_len: usize,
-        code: u16,
-        mode: u8,
-        text: *const u8,
-        text_len: usize,
-    ) -> u64;
-    fn maluwesi_shelf_first_fit(
-        shelf: *const u8,
-        shelf_len: usize,
-        version: *const u8,
-        version_len: usize,
-        found: &mut u8,
-        code: &mut u16,
-    ) -> u64;
-}
 
 const SHELF_LEN: usize = 25_602;
 const ENTRIES: usize = 256;
@@ -39,7 +21,7 @@ fn set_count(count: usize) {
 
 fn add(text: &str, code: u16) -> u64 {
     // SAFETY: the text is a slice with its length; the shelf is a static's, which nothing else uses while the call runs.
-    unsafe { maluwesi_shelf_add(SHELF.0.get().cast(), SHELF_LEN, code, CARGO, text.as_ptr(), text.len()) }
+    unsafe { ffi::maluwesi_shelf_add(SHELF.0.get().cast(), SHELF_LEN, code, CARGO, text.as_ptr(), text.len()) }
 }
 
 /// The first act fills the shelf.
@@ -57,7 +39,7 @@ fn fits_first(text: &str) -> Option<u64> {
     let (mut found, mut code) = (0, 0);
     // SAFETY: the version is a slice with its length; the shelf is a static's, which nothing else uses while the call runs; the answers are locals.
     let refusal = unsafe {
-        maluwesi_shelf_first_fit(
+        ffi::maluwesi_shelf_first_fit(
             SHELF.0.get().cast(),
             SHELF_LEN,
             VERSION.as_ptr(),

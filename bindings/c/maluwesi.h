@@ -67,11 +67,11 @@ uint64_t maluwesi_admit(const uint8_t *text, size_t text_len, uint8_t mode,
                         const uint8_t *version, size_t version_len, uint8_t *admitted);
 
 /* Writes the normal text under mode, from the start of out, and reads it under other: its counts and its rows, whose places are places in the normal
- * text. They are the counts of the text itself, and the readings are equal. Refuses with 1 to 4 and 7 for the text, and with 1, 5 and 6 for its
- * normal text; what is lent stays as it was then. */
+ * text. They are the counts of the text itself, and the readings are equal. Refuses with 1 to 4 and 7 for the text, with 0 in normal, and with 1, 5
+ * and 6 for its normal text, with 1 in normal; what is lent stays as it was then. */
 uint64_t maluwesi_read_normal_text(const uint8_t *text, size_t text_len, uint8_t mode, uint8_t other,
                                    uint8_t *out, size_t out_len,
-                                   uint64_t *words, size_t words_len, uint64_t *ids, size_t ids_len,
+                                   uint64_t *words, size_t words_len, uint64_t *ids, size_t ids_len, uint8_t *normal,
                                    size_t *ranges, size_t *comparators, size_t *identifiers);
 
 /* Whether the readings of two texts, each under its mode, are equal: 1 or 0 in equal. Writes both normal texts, from the start of out and of out2.

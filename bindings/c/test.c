@@ -89,16 +89,17 @@ static struct part part_of(const char *text, size_t place, size_t len)
 
 struct reread {
     struct reading reading;
+    uint8_t normal;
     uint8_t out[ROOM];
 };
 
 static struct reread reread_into(const char *text, uint8_t mode, uint8_t other, size_t lent, size_t words, size_t ids)
 {
-    struct reread r = {untouched_reading(), {0}};
+    struct reread r = {untouched_reading(), UNTOUCHED_BYTE, {0}};
     memset(r.out, UNTOUCHED_BYTE, ROOM);
     r.reading.number = maluwesi_read_normal_text(bytes(text), strlen(text), mode, other, r.out + 1, lent, r.reading.words + 1,
-                                                 words, r.reading.ids + 1, ids, &r.reading.ranges, &r.reading.comparators,
-                                                 &r.reading.identifiers);
+                                                 words, r.reading.ids + 1, ids, &r.normal, &r.reading.ranges,
+                                                 &r.reading.comparators, &r.reading.identifiers);
     return r;
 }
 
@@ -180,6 +181,7 @@ static void check_refused(const char *text, uint8_t mode, uint64_t number)
 
     struct reread n = reread_into(text, mode, MALUWESI_NPM, ROOM - 2, ROOM - 2, ROOM - 2);
     CHECK(n.reading.number == number);
+    CHECK(n.normal == 0);
     CHECK(counts_are(&n.reading, 0, 0, 0));
     CHECK(holds_words(n.reading.words, NULL, 0));
     CHECK(holds_words(n.reading.ids, NULL, 0));
@@ -376,6 +378,7 @@ static void check_reread(void)
         for (uint8_t other = 0; other < 2; other++) {
             struct reread r = reread_into(text, MALUWESI_CARGO, other, lent[i].lent, lent[i].words, lent[i].ids);
             CHECK(r.reading.number == MALUWESI_OK);
+            CHECK(r.normal == 0);
             CHECK(counts_are(&r.reading, 1, 2, 2));
             CHECK(holds_bytes(r.out, REREAD_NORMAL));
             CHECK(holds_words(r.reading.words, words, 12));
@@ -384,11 +387,12 @@ static void check_reread(void)
     }
 }
 
-static void check_short_reread(size_t lent, size_t words, size_t ids, uint8_t other, uint64_t number)
+static void check_short_reread(size_t lent, size_t words, size_t ids, uint8_t other, uint64_t number, uint8_t normal)
 {
     static const char text[] = REREAD_TEXT;
     struct reread r = reread_into(text, MALUWESI_CARGO, other, lent, words, ids);
     CHECK(r.reading.number == number);
+    CHECK(r.normal == normal);
     CHECK(counts_are(&r.reading, 0, 0, 0));
     CHECK(holds_bytes(r.out, ""));
     CHECK(holds_words(r.reading.words, NULL, 0));
@@ -398,10 +402,10 @@ static void check_short_reread(size_t lent, size_t words, size_t ids, uint8_t ot
 static void check_short_rereads(void)
 {
     size_t len = strlen(REREAD_NORMAL);
-    check_short_reread(len - 1, 11, 5, MALUWESI_NPM, MALUWESI_BYTES_SHORT);
-    check_short_reread(len, 11, 5, MALUWESI_NPM, MALUWESI_COMPARATORS_SHORT);
-    check_short_reread(len, 12, 5, MALUWESI_NPM, MALUWESI_IDENTIFIERS_SHORT);
-    check_short_reread(len, 12, 6, 2, MALUWESI_NO_MODE);
+    check_short_reread(len - 1, 11, 5, MALUWESI_NPM, MALUWESI_BYTES_SHORT, 0);
+    check_short_reread(len, 11, 5, MALUWESI_NPM, MALUWESI_COMPARATORS_SHORT, 1);
+    check_short_reread(len, 12, 5, MALUWESI_NPM, MALUWESI_IDENTIFIERS_SHORT, 1);
+    check_short_reread(len, 12, 6, 2, MALUWESI_NO_MODE, 0);
 }
 
 /* A text that is accepted, and whose normal text is too long to be read. */
@@ -412,12 +416,14 @@ static void check_long_normal_text(void)
     for (size_t i = 0; i < LONGEST; i++)
         text[i] = i % 2 == 0 ? '9' : ' ';
     size_t ranges, comparators, identifiers, len;
+    uint8_t normal;
     uint64_t none[1];
     CHECK(maluwesi_normal_text(bytes(text), LONGEST, MALUWESI_NPM, out, sizeof out, &len) == MALUWESI_OK);
     CHECK(len == sizeof out);
     CHECK(maluwesi_count(out, len, MALUWESI_NPM, &ranges, &comparators, &identifiers) == MALUWESI_TOO_LONG);
-    CHECK(maluwesi_read_normal_text(bytes(text), LONGEST, MALUWESI_NPM, MALUWESI_NPM, out, sizeof out, none, 0, none, 0, &ranges,
-                                    &comparators, &identifiers) == MALUWESI_TOO_LONG);
+    CHECK(maluwesi_read_normal_text(bytes(text), LONGEST, MALUWESI_NPM, MALUWESI_NPM, out, sizeof out, none, 0, none, 0, &normal,
+                                    &ranges, &comparators, &identifiers) == MALUWESI_TOO_LONG);
+    CHECK(normal == 1);
 }
 
 static void check_equal(const char *text, uint8_t mode, const char *text2, uint8_t mode2, uint8_t equal, const char *normal,

@@ -55,7 +55,9 @@ fn compare_all(seed: u64) -> ExitCode {
     println!("seed {seed}");
     show_listed();
     let report = compare_texts(seed);
+    eprintln!("admissions");
     let admissions = admission::compare_all(seed);
+    eprintln!("modes 2 to 255");
     let other_modes = compare_other_modes();
     print!("\n{report}\n{admissions}\n");
     println!("modes 2 to 255: {} differences", other_modes.count);
@@ -67,7 +69,8 @@ fn compare_all(seed: u64) -> ExitCode {
     ExitCode::from(u8::from(differences > 0))
 }
 
-/// The threads take the jobs in turn. A job's texts depend on the seed and on its place in the list alone.
+/// The threads take the jobs in turn, and say so on standard error. A job's texts depend on the seed and on its place in
+/// the list alone.
 fn compare_texts(seed: u64) -> Report {
     let jobs = texts::jobs();
     let next = AtomicUsize::new(0);
@@ -75,6 +78,7 @@ fn compare_texts(seed: u64) -> Report {
     let work = || loop {
         let at = next.fetch_add(1, Ordering::Relaxed);
         let Some(job) = jobs.get(at) else { return };
+        eprintln!("{} of {}: {}", at + 1, jobs.len(), job.family);
         let tally = compare_job(job, seed.wrapping_add(at as u64));
         tallies.lock().unwrap().insert(at, tally);
     };

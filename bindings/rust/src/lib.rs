@@ -20,6 +20,7 @@
 //! ```
 
 mod calls;
+pub mod ffi;
 mod range;
 mod range_set;
 mod refusal;
@@ -28,7 +29,7 @@ mod shelf_calls;
 
 pub use range::{Comparator, Identifier, Op, Range};
 pub use range_set::{Compat, RangeSet};
-pub use refusal::Refusal;
+pub use refusal::{Refusal, RereadRefusal};
 pub use shelf::{Entries, Entry, Shelf};
 
 use range_set::Rows;
@@ -46,12 +47,12 @@ pub fn normal_text(text: &str, compat: Compat) -> Result<String, Refusal> {
 
 /// The normal text under the first mode, and its reading under the other, which has the comparators
 /// of the text itself. A normal text that is longer than 65,535 bytes is refused with
-/// [`Refusal::TooLong`].
+/// [`Refusal::TooLong`], in [`RereadRefusal::NormalText`].
 pub fn read_normal_text(
     text: &str,
     compat: Compat,
     other: Compat,
-) -> Result<(String, RangeSet), Refusal> {
+) -> Result<(String, RangeSet), RereadRefusal> {
     let text = text.as_bytes();
     let mut out = vec![0; calls::normal_text_len(text, compat)?];
     let mut rows = Rows::new(calls::count(text, compat)?);

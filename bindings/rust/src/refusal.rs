@@ -71,6 +71,30 @@ impl fmt::Display for Refusal {
 
 impl Error for Refusal {}
 
+/// Why a normal text could not be read again: the text was refused, or its normal text.
+#[derive(Clone, Copy, PartialEq, Eq, Debug)]
+pub enum RereadRefusal {
+    Text(Refusal),
+    NormalText(Refusal),
+}
+
+impl fmt::Display for RereadRefusal {
+    fn fmt(&self, f: &mut fmt::Formatter<'_>) -> fmt::Result {
+        match self {
+            RereadRefusal::Text(refusal) => refusal.fmt(f),
+            RereadRefusal::NormalText(refusal) => write!(f, "of the normal text: {refusal}"),
+        }
+    }
+}
+
+impl Error for RereadRefusal {}
+
+impl From<Refusal> for RereadRefusal {
+    fn from(refusal: Refusal) -> RereadRefusal {
+        RereadRefusal::Text(refusal)
+    }
+}
+
 /// semver-parser's error is a `String`. With this, `?` goes on compiling in a function that
 /// returns one.
 impl From<Refusal> for String {

@@ -1,53 +1,21 @@
-//! The shelf's calls of libmaluwesi.a, declared as in bindings/c/maluwesi.h, and a safe function for
-//! each. What the header asks is kept as in calls.rs.
+//! A safe function for each of the shelf's calls of [`ffi`](crate::ffi), as in calls.rs.
 
+use crate::ffi;
 use crate::calls::{accepted, mode};
 use crate::{Compat, Refusal};
 use std::ops::Range;
 
 pub const SHELF_BYTES: usize = 25_602;
 
-extern "C" {
-    fn maluwesi_shelf_clear(shelf: *mut u8, shelf_len: usize) -> u64;
-
-    fn maluwesi_shelf_add(
-        shelf: *mut u8,
-        shelf_len: usize,
-        code: u16,
-        mode: u8,
-        text: *const u8,
-        text_len: usize,
-    ) -> u64;
-
-    fn maluwesi_shelf_remove(shelf: *mut u8, shelf_len: usize, code: u16) -> u64;
-
-    fn maluwesi_shelf_find(
-        shelf: *const u8,
-        shelf_len: usize,
-        code: u16,
-        place: *mut usize,
-        len: *mut usize,
-    ) -> u64;
-
-    fn maluwesi_shelf_first_fit(
-        shelf: *const u8,
-        shelf_len: usize,
-        version: *const u8,
-        version_len: usize,
-        found: *mut u8,
-        code: *mut u16,
-    ) -> u64;
-}
-
 pub fn clear(shelf: &mut [u8]) -> Result<(), Refusal> {
     // SAFETY: the shelf is an exclusive slice with its length.
-    accepted(unsafe { maluwesi_shelf_clear(shelf.as_mut_ptr(), shelf.len()) })
+    accepted(unsafe { ffi::maluwesi_shelf_clear(shelf.as_mut_ptr(), shelf.len()) })
 }
 
 pub fn add(shelf: &mut [u8], code: u16, compat: Compat, text: &[u8]) -> Result<(), Refusal> {
     // SAFETY: shelf and text are slices, each with its length; the shelf is exclusive.
     accepted(unsafe {
-        maluwesi_shelf_add(
+        ffi::maluwesi_shelf_add(
             shelf.as_mut_ptr(),
             shelf.len(),
             code,
@@ -60,7 +28,7 @@ pub fn add(shelf: &mut [u8], code: u16, compat: Compat, text: &[u8]) -> Result<(
 
 pub fn remove(shelf: &mut [u8], code: u16) -> Result<(), Refusal> {
     // SAFETY: the shelf is an exclusive slice with its length.
-    accepted(unsafe { maluwesi_shelf_remove(shelf.as_mut_ptr(), shelf.len(), code) })
+    accepted(unsafe { ffi::maluwesi_shelf_remove(shelf.as_mut_ptr(), shelf.len(), code) })
 }
 
 /// Where the text of the first entry with the code stands in the shelf.
@@ -68,7 +36,7 @@ pub fn find(shelf: &[u8], code: u16) -> Result<Range<usize>, Refusal> {
     let (mut place, mut len) = (0, 0);
     // SAFETY: the shelf is a slice with its length; place and len are locals.
     let number =
-        unsafe { maluwesi_shelf_find(shelf.as_ptr(), shelf.len(), code, &mut place, &mut len) };
+        unsafe { ffi::maluwesi_shelf_find(shelf.as_ptr(), shelf.len(), code, &mut place, &mut len) };
     accepted(number).map(|()| place..place + len)
 }
 
@@ -77,7 +45,7 @@ pub fn first_fit(shelf: &[u8], version: &[u8]) -> Result<Option<u16>, Refusal> {
     // SAFETY: shelf and version are slices, each with its length, and only read; found and code
     // are locals.
     let number = unsafe {
-        maluwesi_shelf_first_fit(
+        ffi::maluwesi_shelf_first_fit(
             shelf.as_ptr(),
             shelf.len(),
             version.as_ptr(),

@@ -1,4 +1,4 @@
-use maluwesi::{equal_readings, read_normal_text, Comparator, Compat, RangeSet, Refusal};
+use maluwesi::{equal_readings, read_normal_text, Comparator, Compat, RangeSet, Refusal, RereadRefusal};
 
 const MODES: [Compat; 2] = [Compat::Cargo, Compat::Npm];
 
@@ -25,11 +25,13 @@ fn a_normal_text_is_read_again_under_either_mode() {
 #[test]
 fn a_text_or_its_normal_text_is_refused() {
     let refused = |text: &str| read_normal_text(text, Compat::Npm, Compat::Cargo).err();
-    assert_eq!(refused("1,2"), Some(Refusal::NoReading));
-    assert_eq!(refused("18446744073709551616"), Some(Refusal::TooLarge));
-    assert_eq!(refused(&" ".repeat(65_536)), Some(Refusal::TooLong));
+    let of_text = |refusal| Some(RereadRefusal::Text(refusal));
+    assert_eq!(refused("1,2"), of_text(Refusal::NoReading));
+    assert_eq!(refused("18446744073709551616"), of_text(Refusal::TooLarge));
+    assert_eq!(refused(&" ".repeat(65_536)), of_text(Refusal::TooLong));
     let nines = vec!["9"; 32_768].join(" ");
-    assert_eq!(refused(&nines), Some(Refusal::TooLong));
+    let of_normal_text = Some(RereadRefusal::NormalText(Refusal::TooLong));
+    assert_eq!(refused(&nines), of_normal_text);
     assert!(maluwesi::normal_text(&nines, Compat::Npm).is_ok());
 }
 

@@ -21,7 +21,7 @@ use denote.Ref.{now}
 use Rattle.range.specs.Views.{compatOf}
 use Rattle.rangeset.specs.Views.{outcomeOf}
 use Rattle.rangeset.proofs.read.Reads as Read
-use Rattle.maluwesi.specs.Views.{outcome}
+use Rattle.numbers.specs.Views.{outcome}
 use Rattle.maluwesi.proofs.maluwesi_read.Reads as MaluwesiRead
 use Rattle.rangeset.proofs.Words.{words-length, names-length}
 use Rattle.reference.specs.Range.{Compat}

@@ -18,7 +18,7 @@ use Rattle.rules.specs.Exported.{modeOf}
 use Rattle.range.specs.Views.{compatOf}
 use Rattle.rangeset.specs.Views.{outcomeOf}
 use Rattle.rangeset.proofs.read.Reads as Read
-use Rattle.maluwesi.specs.Views.{outcome}
+use Rattle.numbers.specs.Views.{outcome}
 use Rattle.maluwesi.proofs.maluwesi_read.Reads as MaluwesiRead
 use Rattle.reference.specs.Range.{Compat}
 use Rattle.reference.specs.RangeSet.{Ok, Err, panicked, endless, parse}

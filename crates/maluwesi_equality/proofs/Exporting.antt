@@ -3,42 +3,49 @@
 use Prim.Native.Nat.{ℕ}
 use mathlib.Core.Path.{_≡_, refl, sym, ap, _∙_}
 use mathlib.Core.List.{List}
+use mathlib.Core.Option.{Option, some}
 use Rattle.rules.specs.Expansion as E
-use Rattle.rules.specs.Answers.{Answer, refused, mapAnswer, readingOutcome, written, Outcome}
-use Rattle.rules.specs.Equality.{andThen, Reread, rereadOutcome, rereadBytesAfter, rereadComparatorsAfter, rereadIdentifiersAfter, Texts, textsEqual, firstAfter, secondAfter}
-use Rattle.rules.specs.Exported.{modeOf, modesOf, underBoth, Verdict, verdict}
-use Rattle.range.specs.Views.{compatOf}
+use Rattle.rules.specs.Answers.{Answer, refused, orRefused, mapAnswer, readingOutcome, written}
+use Rattle.rules.specs.Equality as Q
+use Rattle.rules.specs.Equality.{andThen, rereadOutcome, rereadBytesAfter, rereadComparatorsAfter, rereadIdentifiersAfter, Texts, textsEqual, firstAfter, secondAfter}
+use Rattle.rules.specs.Exported.{modesOf, underBoth, rereadUnder, RereadNumbers, rereadNumbers, Verdict, verdict}
+use Rattle.range.specs.Views.{compatOf, modeIs}
 use Rattle.range.specs.declared.Compat.{Compat}
+use Rattle.range.specs.declared.Mode.{Mode}
+use Rattle.range.specs.declared.Mode.the-variants as One
 use Rattle.rangeset.specs.Views.{numberOf, outcomeOf}
 use Rattle.rangeset.specs.declared.Refusal.{Refusal}
-use Rattle.rangeset.specs.declared.Reading.{Reading}
-use Rattle.equality.specs.Views.{answerOf}
+use Rattle.rangeset.specs.declared.Counts.{Counts}
+use Rattle.rangeset.specs.declared.Reading.the-variants as Readings
+use Rattle.equality.specs.Views.{rereadOf, answerOf}
+use Rattle.equality.specs.declared.Reread.{Reread}
+use Rattle.equality.specs.declared.Reread.the-variants as Rereads
 use Rattle.equality.specs.declared.Equality.{Equality}
 use Rattle.equality.specs.declared.Equality.the-variants as Equalities
-use Rattle.numbers.specs.Views.{modeIs, outcome, verdictIs}
-use Rattle.numbers.specs.declared.Mode.{Mode}
-use Rattle.numbers.specs.declared.Mode.the-variants as One
-use Rattle.maluwesi_equality.specs.Views.{modesAre}
+use Rattle.numbers.specs.Views.{outcome, verdictIs}
+use Rattle.maluwesi_equality.specs.Views.{modesAre, rereadIs}
 use Rattle.maluwesi_equality.specs.declared.Modes.{Modes}
 use Rattle.maluwesi_equality.specs.declared.Modes.the-variants as Both
 
 -- ---- the modes
 
-module _ (k : ℕ) (m : Mode) (e : modeIs m ≡ modeOf k) (l : ℕ) where
-  pub first-none : m ≡ One.Nothing → modesAre Both.Nothing ≡ modesOf k l
-  first-none q = ap (λ a. andThen a (λ m. mapAnswer (λ m′. (m, m′)) (modeOf l))) (ap modeIs (sym q) ∙ e)
+-- the modes with these numbers, where each is a mode or none
+abbrev both : Option E.Compat → Option E.Compat → Answer (E.Compat × E.Compat)
+both a b = andThen (orRefused 255 a) (λ m. mapAnswer (λ m′. (m, m′)) (orRefused 255 b))
 
-  module _ (c : Compat) (q : m ≡ One.Compat c) (m′ : Mode) (e′ : modeIs m′ ≡ modeOf l) where
-    second : modesOf k l ≡ mapAnswer (λ m′. (compatOf c, m′)) (modeIs m′)
-    second =
-        ap (λ a. andThen a (λ m. mapAnswer (λ m′. (m, m′)) (modeOf l))) (sym (ap modeIs (sym q) ∙ e))
-        ∙ ap (mapAnswer (λ m′. (compatOf c, m′))) (sym e′)
+module _ (k : ℕ) (m : Mode) (e : modeIs m ≡ E.modeFrom k) (l : ℕ) where
+  pub first-none : m ≡ One.Nothing → modesAre Both.Nothing ≡ modesOf k l
+  first-none q = ap (λ a. both a (E.modeFrom l)) (ap modeIs (sym q) ∙ e)
+
+  module _ (c : Compat) (q : m ≡ One.Compat c) (m′ : Mode) (e′ : modeIs m′ ≡ E.modeFrom l) where
+    second : modesOf k l ≡ both (some (compatOf c)) (modeIs m′)
+    second = ap (λ a. both a (E.modeFrom l)) (sym (ap modeIs (sym q) ∙ e)) ∙ ap (both (some (compatOf c))) (sym e′)
 
     pub second-none : m′ ≡ One.Nothing → modesAre Both.Nothing ≡ modesOf k l
-    second-none q′ = sym (second ∙ ap (λ x. mapAnswer (λ m′. (compatOf c, m′)) (modeIs x)) q′)
+    second-none q′ = sym (second ∙ ap (λ x. both (some (compatOf c)) (modeIs x)) q′)
 
     pub both-modes : (c′ : Compat) → m′ ≡ One.Compat c′ → modesAre (Both.Compats c c′) ≡ modesOf k l
-    both-modes c′ q′ = sym (second ∙ ap (λ x. mapAnswer (λ m′. (compatOf c, m′)) (modeIs x)) q′)
+    both-modes c′ q′ = sym (second ∙ ap (λ x. both (some (compatOf c)) (modeIs x)) q′)
 
 pub ruleset pairs = (first-none, second-none, both-modes)
 
@@ -56,6 +63,19 @@ pub refused-equality : (r : Equality) (y : Refusal) (n : ℕ) → r ≡ Equaliti
 unfolding verdict
 refused-equality r y n q e = rw q (ap (λ n. verdictIs n 0) e)
 
+module _ (r : Reread) where
+  pub counted-again : (k : Counts) → r ≡ Rereads.Accepted k → (n a b c : ℕ) → outcome n a b c ≡ outcomeOf (Readings.Accepted k) → rereadIs n 0 a b c ≡ rereadNumbers (rereadOf r)
+  counted-again k q n a b c e = rw q (ap (λ o. record { outcome = o; normal = 0 }) e)
+
+  module _ (y : Refusal) (n a b c : ℕ) (e : outcome n a b c ≡ outcomeOf (Readings.Refused y)) where
+    pub text-refused : r ≡ Rereads.TextRefused y → rereadIs n 0 a b c ≡ rereadNumbers (rereadOf r)
+    text-refused q = rw q (ap (λ o. record { outcome = o; normal = 0 }) e)
+
+    pub normal-refused : r ≡ Rereads.NormalRefused y → rereadIs n 1 a b c ≡ rereadNumbers (rereadOf r)
+    normal-refused q = rw q (ap (λ o. record { outcome = o; normal = 1 }) e)
+
+pub ruleset rereads = (counted-again, text-refused, normal-refused)
+
 pub ruleset numbers = (said-equal, said-different, refused-equality)
 
 -- ---- a call under two modes
@@ -67,19 +87,23 @@ module _ (k l : ℕ) (ms : Modes) (e : modesAre ms ≡ modesOf k l) where
     unfolding underBoth
     under-both f = rw (sym (ap modesAre (sym q) ∙ e)) refl
 
-    pub both-counts : (f : E.Compat → E.Compat → Answer Reread) (r : Reading) → outcomeOf r ≡ rereadOutcome (f (compatOf c) (compatOf c′))
-        → (x : Outcome) → x ≡ outcomeOf r → x ≡ rereadOutcome (underBoth k l f)
-    both-counts f r h x p = p ∙ h ∙ ap rereadOutcome (under-both f)
+    under-reread : (f : E.Compat → E.Compat → Q.Reread) → f (compatOf c) (compatOf c′) ≡ rereadUnder k l f
+    unfolding rereadUnder
+    under-reread f = rw (sym (ap modesAre (sym q) ∙ e)) refl
 
-    module _ (f : E.Compat → E.Compat → Answer Reread) (o x : List ℕ) where
-      pub both-bytes : x ≡ rereadBytesAfter (f (compatOf c) (compatOf c′)) o → x ≡ rereadBytesAfter (underBoth k l f) o
-      both-bytes p = p ∙ ap (λ a. rereadBytesAfter a o) (under-both f)
+    pub both-counts : (f : E.Compat → E.Compat → Q.Reread) (r : Reread) → rereadOf r ≡ rereadOutcome (f (compatOf c) (compatOf c′))
+        → (x : RereadNumbers) → x ≡ rereadNumbers (rereadOf r) → x ≡ rereadNumbers (rereadOutcome (rereadUnder k l f))
+    both-counts f r h x p = p ∙ ap rereadNumbers (h ∙ ap rereadOutcome (under-reread f))
 
-      pub both-words : x ≡ rereadComparatorsAfter (f (compatOf c) (compatOf c′)) o → x ≡ rereadComparatorsAfter (underBoth k l f) o
-      both-words p = p ∙ ap (λ a. rereadComparatorsAfter a o) (under-both f)
+    module _ (f : E.Compat → E.Compat → Q.Reread) (o x : List ℕ) where
+      pub both-bytes : x ≡ rereadBytesAfter (f (compatOf c) (compatOf c′)) o → x ≡ rereadBytesAfter (rereadUnder k l f) o
+      both-bytes p = p ∙ ap (λ a. rereadBytesAfter a o) (under-reread f)
 
-      pub both-ids : x ≡ rereadIdentifiersAfter (f (compatOf c) (compatOf c′)) o → x ≡ rereadIdentifiersAfter (underBoth k l f) o
-      both-ids p = p ∙ ap (λ a. rereadIdentifiersAfter a o) (under-both f)
+      pub both-words : x ≡ rereadComparatorsAfter (f (compatOf c) (compatOf c′)) o → x ≡ rereadComparatorsAfter (rereadUnder k l f) o
+      both-words p = p ∙ ap (λ a. rereadComparatorsAfter a o) (under-reread f)
+
+      pub both-ids : x ≡ rereadIdentifiersAfter (f (compatOf c) (compatOf c′)) o → x ≡ rereadIdentifiersAfter (rereadUnder k l f) o
+      both-ids p = p ∙ ap (λ a. rereadIdentifiersAfter a o) (under-reread f)
 
     pub both-verdict : (f : E.Compat → E.Compat → Answer Texts) (r : Equality) → answerOf r ≡ textsEqual (f (compatOf c) (compatOf c′))
         → (x : Verdict) → x ≡ verdict (answerOf r) → x ≡ verdict (textsEqual (underBoth k l f))
@@ -98,23 +122,27 @@ module _ (k l : ℕ) (ms : Modes) (e : modesAre ms ≡ modesOf k l) where
     unfolding underBoth
     under-neither f = rw (sym (ap modesAre (sym q) ∙ e)) refl
 
-    pub neither-counts : (f : E.Compat → E.Compat → Answer Reread) (a b c : ℕ) → a ≡ 0 → b ≡ 0 → c ≡ 0
-        → outcome 255 a b c ≡ rereadOutcome (underBoth k l f)
+    neither-reread : (f : E.Compat → E.Compat → Q.Reread) → rereadUnder k l f ≡ Q.textRefused 255
+    unfolding rereadUnder
+    neither-reread f = rw (sym (ap modesAre (sym q) ∙ e)) refl
+
+    pub neither-counts : (f : E.Compat → E.Compat → Q.Reread) (a b c : ℕ) → a ≡ 0 → b ≡ 0 → c ≡ 0
+        → rereadIs 255 0 a b c ≡ rereadNumbers (rereadOutcome (rereadUnder k l f))
     unfolding rereadOutcome readingOutcome
-    neither-counts f a b c h i j = rw (under-neither f, h, i, j)
+    neither-counts f a b c h i j = rw (neither-reread f, h, i, j)
 
-    module _ (f : E.Compat → E.Compat → Answer Reread) (o : List ℕ) where
-      pub neither-bytes : o ≡ rereadBytesAfter (underBoth k l f) o
-      unfolding rereadBytesAfter written
-      neither-bytes = rw (under-neither f) refl
+    module _ (f : E.Compat → E.Compat → Q.Reread) (o : List ℕ) where
+      pub neither-bytes : o ≡ rereadBytesAfter (rereadUnder k l f) o
+      unfolding rereadBytesAfter
+      neither-bytes = rw (neither-reread f) refl
 
-      pub neither-words : o ≡ rereadComparatorsAfter (underBoth k l f) o
-      unfolding rereadComparatorsAfter written
-      neither-words = rw (under-neither f) refl
+      pub neither-words : o ≡ rereadComparatorsAfter (rereadUnder k l f) o
+      unfolding rereadComparatorsAfter
+      neither-words = rw (neither-reread f) refl
 
-      pub neither-ids : o ≡ rereadIdentifiersAfter (underBoth k l f) o
-      unfolding rereadIdentifiersAfter written
-      neither-ids = rw (under-neither f) refl
+      pub neither-ids : o ≡ rereadIdentifiersAfter (rereadUnder k l f) o
+      unfolding rereadIdentifiersAfter
+      neither-ids = rw (neither-reread f) refl
 
     pub neither-verdict : (f : E.Compat → E.Compat → Answer Texts) → verdictIs 255 0 ≡ verdict (textsEqual (underBoth k l f))
     unfolding verdict textsEqual

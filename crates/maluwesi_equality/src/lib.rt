@@ -3,19 +3,21 @@
 ghost use mathlib.Core.Path.{_≡_};
 ghost use lib.ListN.{length};
 ghost use Rattle.rules.specs.Equality.{rereadCall, rereadOutcome, rereadBytesAfter, rereadComparatorsAfter, rereadIdentifiersAfter, textsCall, textsEqual, firstAfter, secondAfter};
-ghost use Rattle.rules.specs.Exported.{modesOf, underBoth, verdict};
-ghost use Rattle.equality.specs.Views.{answerOf};
-ghost use Rattle.numbers.specs.Views.{outcome, verdictIs};
-ghost use Rattle.maluwesi_equality.specs.Views.{modesAre};
+ghost use Rattle.rules.specs.Exported.{modesOf, underBoth, rereadUnder, rereadNumbers, verdict};
+ghost use Rattle.equality.specs.Views.{rereadOf, answerOf};
+ghost use Rattle.numbers.specs.Views.{verdictIs};
+ghost use Rattle.maluwesi_equality.specs.Views.{modesAre, rereadIs};
 use equality::Equality;
+use equality::Reread;
 use equality::equal_readings;
 use equality::read_normal_text;
-use numbers::Mode;
-use numbers::NO_MODE;
-use numbers::mode_of;
 use numbers::put_counts;
 use numbers::put_no_counts;
 use range::Compat;
+use range::Mode;
+use range::NO_MODE;
+use range::mode_of;
+use rangeset::Reading;
 
 // ---- the modes
 
@@ -40,6 +42,32 @@ fn modes_of(number: u8, other: u8) -> Modes
 
 // ---- a normal text, read again
 
+// The counts, and 1 in normal where it is the normal text that is refused.
+fn put_reread(
+    r: Reread,
+    normal: &mut u8,
+    ranges: &mut usize,
+    comparators: &mut usize,
+    identifiers: &mut usize,
+) -> u64
+    ensures { λ n. ⌜ rereadIs n (now (normal .exit)) (now (ranges .exit)) (now (comparators .exit)) (now (identifiers .exit)) ≡ rereadNumbers (rereadOf r) ⌝ }
+{
+    match r {
+        Reread::Accepted(counts) => {
+            *normal = 0;
+            put_counts(Reading::Accepted(counts), ranges, comparators, identifiers)
+        }
+        Reread::TextRefused(refusal) => {
+            *normal = 0;
+            put_counts(Reading::Refused(refusal), ranges, comparators, identifiers)
+        }
+        Reread::NormalRefused(refusal) => {
+            *normal = 1;
+            put_counts(Reading::Refused(refusal), ranges, comparators, identifiers)
+        }
+    }
+}
+
 // Writes the normal text under the first mode, and reads it under the other.
 #[no_mangle]
 pub extern "C" fn maluwesi_read_normal_text(
@@ -49,22 +77,24 @@ pub extern "C" fn maluwesi_read_normal_text(
     out: &mut [u8],
     words: &mut [u64],
     ids: &mut [u64],
+    normal: &mut u8,
     ranges: &mut usize,
     comparators: &mut usize,
     identifiers: &mut usize,
 ) -> u64
-    ensures { λ n. ⌜ outcome n (now (ranges .exit)) (now (comparators .exit)) (now (identifiers .exit)) ≡ rereadOutcome (underBoth mode other (λ m m′. rereadCall m m′ (now (text .entry)) (length (now (out .entry))) (length (now (words .entry))) (length (now (ids .entry))))) ⌝ }
-    ensures bytes { λ _. ⌜ now (out .exit) ≡ rereadBytesAfter (underBoth mode other (λ m m′. rereadCall m m′ (now (text .entry)) (length (now (out .entry))) (length (now (words .entry))) (length (now (ids .entry))))) (now (out .entry)) ⌝ }
-    ensures words { λ _. ⌜ now (words .exit) ≡ rereadComparatorsAfter (underBoth mode other (λ m m′. rereadCall m m′ (now (text .entry)) (length (now (out .entry))) (length (now (words .entry))) (length (now (ids .entry))))) (now (words .entry)) ⌝ }
-    ensures ids { λ _. ⌜ now (ids .exit) ≡ rereadIdentifiersAfter (underBoth mode other (λ m m′. rereadCall m m′ (now (text .entry)) (length (now (out .entry))) (length (now (words .entry))) (length (now (ids .entry))))) (now (ids .entry)) ⌝ }
+    ensures { λ n. ⌜ rereadIs n (now (normal .exit)) (now (ranges .exit)) (now (comparators .exit)) (now (identifiers .exit)) ≡ rereadNumbers (rereadOutcome (rereadUnder mode other (λ m m′. rereadCall m m′ (now (text .entry)) (length (now (out .entry))) (length (now (words .entry))) (length (now (ids .entry)))))) ⌝ }
+    ensures bytes { λ _. ⌜ now (out .exit) ≡ rereadBytesAfter (rereadUnder mode other (λ m m′. rereadCall m m′ (now (text .entry)) (length (now (out .entry))) (length (now (words .entry))) (length (now (ids .entry))))) (now (out .entry)) ⌝ }
+    ensures words { λ _. ⌜ now (words .exit) ≡ rereadComparatorsAfter (rereadUnder mode other (λ m m′. rereadCall m m′ (now (text .entry)) (length (now (out .entry))) (length (now (words .entry))) (length (now (ids .entry))))) (now (words .entry)) ⌝ }
+    ensures ids { λ _. ⌜ now (ids .exit) ≡ rereadIdentifiersAfter (rereadUnder mode other (λ m m′. rereadCall m m′ (now (text .entry)) (length (now (out .entry))) (length (now (words .entry))) (length (now (ids .entry))))) (now (ids .entry)) ⌝ }
 {
     let ms = modes_of(mode, other);
     let Modes::Compats(compat, second) = ms else {
+        *normal = 0;
         put_no_counts(ranges, comparators, identifiers);
         return NO_MODE;
     };
     let r = read_normal_text(text, compat, second, out, words, ids);
-    put_counts(r, ranges, comparators, identifiers)
+    put_reread(r, normal, ranges, comparators, identifiers)
 }
 
 // ---- two texts, compared

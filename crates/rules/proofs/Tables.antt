@@ -10,7 +10,7 @@ use Rattle.rules.specs.Plainform.{inputSheet, outputOf, outputGiven}
 use Rattle.rules.specs.Admits.{sessions, sessionOutput, sessionGiven, rangeLines}
 use Rattle.rules.specs.Examples.{benchSheet, worked, expected, answered, workedRows, said, given, rowsAnswered, rowsExpected}
 use Rattle.rules.specs.AdmissionExamples.{chain, comparisons, orderExpected, orderAnswered, admissions, admissionExpected, admissionAnswered}
-use Rattle.rules.specs.CallExamples.{readingCalls, readsAnswered, readsExpected, readings, parts, partAnswered, partExpected, normalTextCalls, writesAnswered, writesExpected, normalTexts, rereadCalls, rereadsAnswered, rereadsExpected, textsCalls, comparesAnswered, comparesExpected, modes, verdicts, lefts, identifiers}
+use Rattle.rules.specs.CallExamples.{readingCalls, readsAnswered, readsExpected, readings, parts, partAnswered, partExpected, normalTextCalls, writesAnswered, writesExpected, normalTexts, rereadCalls, rereadsAnswered, rereadsExpected, textsCalls, comparesAnswered, comparesExpected, modes, modePairs, rereadNumbered, spans, verdicts, lefts, identifiers}
 use Rattle.rules.specs.ByteExamples.{classes, membersOf, membersGiven}
 use Rattle.rules.specs.LimitExamples.{limits}
 
@@ -33,6 +33,9 @@ pub record Tables : Type 0 where
   pub reread-calls : map rereadsAnswered rereadCalls ≡ map rereadsExpected rereadCalls
   pub texts-calls : map comparesAnswered textsCalls ≡ map comparesExpected textsCalls
   pub mode-numbers : map said modes ≡ map given modes
+  pub mode-pairs : map said modePairs ≡ map given modePairs
+  pub reread-numbers : map said rereadNumbered ≡ map given rereadNumbered
+  pub part-spans : map said spans ≡ map given spans
   pub verdict-numbers : map said verdicts ≡ map given verdicts
   pub numbers-left : map said lefts ≡ map given lefts
   pub identifiers-found : map said identifiers ≡ map given identifiers
@@ -41,7 +44,7 @@ pub record Tables : Type 0 where
 
 -- all at once, since one list of definitions opens for all
 pub tables : Tables
-unfolding benchSheet worked answered workedRows rowsAnswered inputSheet outputOf chain comparisons orderAnswered admissions admissionAnswered sessions sessionOutput rangeLines readingCalls readsAnswered readings parts normalTextCalls writesAnswered normalTexts rereadCalls rereadsAnswered textsCalls comparesAnswered modes verdicts lefts identifiers classes membersOf limits foundIn versionIdentifiersIn isDigit isNonzero isLetter value valueFrom ofDigits upTo₁ upTo₂ upTo₃ _then_ choose many oneOf count run literal spaces₁ readNumber readComponent readIdentifier readDotIdentifier readIdentifiers readQualifier readDot afterThree afterTwo afterOne readPartial readPrefix readItem readGap readNext readDash readItems afterItem readRange readSeparator readFurther atEnd readText readWord readVersionIdentifier readAfterDot readSeries readVersion
+unfolding benchSheet worked answered workedRows rowsAnswered inputSheet outputOf chain comparisons orderAnswered admissions admissionAnswered sessions sessionOutput rangeLines readingCalls readsAnswered readings parts normalTextCalls writesAnswered normalTexts rereadCalls rereadsAnswered textsCalls comparesAnswered modes modePairs rereadNumbered verdicts lefts identifiers classes membersOf limits foundIn versionIdentifiersIn isDigit isNonzero isLetter value valueFrom ofDigits upTo₁ upTo₂ upTo₃ _then_ choose many oneOf count run literal spaces₁ readNumber readComponent readIdentifier readDotIdentifier readIdentifiers readQualifier readDot afterThree afterTwo afterOne readPartial readPrefix readItem readGap readNext readDash readItems afterItem readRange readSeparator readFurther atEnd readText readWord readVersionIdentifier readAfterDot readSeries readVersion
 tables =
     record {
       bench-sheet = refl;
@@ -61,6 +64,9 @@ tables =
       reread-calls = refl;
       texts-calls = refl;
       mode-numbers = refl;
+      mode-pairs = refl;
+      reread-numbers = refl;
+      part-spans = refl;
       verdict-numbers = refl;
       numbers-left = refl;
       identifiers-found = refl;

@@ -39,7 +39,7 @@ use Rattle.rules.specs.Precedence.{less, equal, greater, precedence}
 use Rattle.rules.specs.Admission.{admits, versionFits, versionOf, admissionCall}
 use Rattle.rules.specs.Admits.{verdictLine, answerLine, sessions, sessionOutput, sessionGiven, rangeLines}
 use Rattle.rules.specs.AdmissionExamples.{chain, comparisons, orderExpected, orderAnswered, admissions, admissionExpected, admissionAnswered}
-use Rattle.rules.specs.CallExamples.{readingCalls, readsAnswered, readsExpected, readings, parts, partAnswered, partExpected, normalTextCalls, writesAnswered, writesExpected, normalTexts, rereadCalls, rereadsAnswered, rereadsExpected, textsCalls, comparesAnswered, comparesExpected, modes, verdicts, lefts, identifiers}
+use Rattle.rules.specs.CallExamples.{readingCalls, readsAnswered, readsExpected, readings, parts, partAnswered, partExpected, normalTextCalls, writesAnswered, writesExpected, normalTexts, rereadCalls, rereadsAnswered, rereadsExpected, textsCalls, comparesAnswered, comparesExpected, modes, modePairs, rereadNumbered, spans, verdicts, lefts, identifiers}
 use Rattle.rules.specs.ByteExamples.{classes, membersOf, membersGiven}
 use Rattle.rules.specs.LimitExamples.{limits}
 use Rattle.rules.proofs.VersionSound as VersionSound
@@ -265,9 +265,18 @@ reread-calls = Tables.tables .reread-calls
 pub texts-calls : map comparesAnswered textsCalls ≡ map comparesExpected textsCalls
 texts-calls = Tables.tables .texts-calls
 
--- modes and verdicts by their numbers, as they are exported; and what code looks at again
+-- modes, verdicts, whose refusal it is and where a part lies, by their numbers, as they are exported; and what code looks at again
 pub mode-numbers : map said modes ≡ map given modes
 mode-numbers = Tables.tables .mode-numbers
+
+pub mode-pairs : map said modePairs ≡ map given modePairs
+mode-pairs = Tables.tables .mode-pairs
+
+pub reread-numbers : map said rereadNumbered ≡ map given rereadNumbered
+reread-numbers = Tables.tables .reread-numbers
+
+pub part-spans : map said spans ≡ map given spans
+part-spans = Tables.tables .part-spans
 
 pub verdict-numbers : map said verdicts ≡ map given verdicts
 verdict-numbers = Tables.tables .verdict-numbers

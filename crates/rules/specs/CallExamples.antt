@@ -12,9 +12,9 @@ use Rattle.rules.specs.Parse.{leftOf, readNumber, foundIn}
 use Rattle.rules.specs.Expansion.{Compat, cargo, npm}
 use Rattle.rules.specs.NormalText.{spell}
 use Rattle.rules.specs.Answers.{Answer, accepted, refused, readingCall, Outcome, readingOutcome, comparatorWordsAfter, identifierWordsAfter, identifierBytes, normalTextCall, Length, normalTextOutcome, bytesAfter}
-use Rattle.rules.specs.Equality.{readingHandedBack, textHandedBack, rereadCall, Refuses, neither, theText, itsNormalText, RereadOutcome, rereadOutcome, rereadBytesAfter, rereadComparatorsAfter, rereadIdentifiersAfter, textsCall, textsEqual, firstAfter, secondAfter}
+use Rattle.rules.specs.Equality.{readingHandedBack, textHandedBack, Reread, textRefused, normalRefused, rereadCall, Refuses, neither, theText, itsNormalText, RereadOutcome, rereadOutcome, rereadBytesAfter, rereadComparatorsAfter, rereadIdentifiersAfter, textsCall, textsEqual, firstAfter, secondAfter}
 use Rattle.rules.specs.Version.{versionIdentifiersIn}
-use Rattle.rules.specs.Exported.{modeOf, under, Verdict, verdict}
+use Rattle.rules.specs.Exported.{modeOf, under, modesOf, underBoth, rereadUnder, RereadNumbers, rereadNumbers, Verdict, verdict, Span, partAt}
 
 -- the same byte or word, so many times
 abbrev pub repeated : ℕ → ℕ → List ℕ
@@ -196,13 +196,39 @@ modes =
     ∷ (under 2 (λ m. refused 3), refused 255)
     ∷ []
 
+-- two modes by their numbers, and calls under both
+unfoldable pub modePairs : List (Answer (Compat × Compat) × Answer (Compat × Compat))
+unfolding underBoth
+modePairs =
+    (modesOf 0 1, accepted (cargo, npm))
+    ∷ (modesOf 1 0, accepted (npm, cargo))
+    ∷ (modesOf 2 0, refused 255)
+    ∷ (modesOf 0 2, refused 255)
+    ∷ (underBoth 0 1 (λ m m′. accepted (m′, m)), accepted (npm, cargo))
+    ∷ (underBoth 0 2 (λ m m′. refused 3), refused 255)
+    ∷ []
+
+-- whose refusal it is, by a number
+unfoldable pub rereadNumbered : List (RereadNumbers × RereadNumbers)
+unfolding rereadUnder rereadOutcome rereadCall
+rereadNumbered =
+    (rereadNumbers (rereadOutcome (rereadUnder 0 1 (λ m m′. normalRefused 5))), record { outcome = refusedWith 5; normal = 1 })
+    ∷ (rereadNumbers (rereadOutcome (rereadUnder 0 1 (λ m m′. textRefused 7))), record { outcome = refusedWith 7; normal = 0 })
+    ∷ (rereadNumbers (rereadOutcome (rereadUnder 0 2 (λ m m′. normalRefused 5))), record { outcome = refusedWith 255; normal = 0 })
+    ∷ (rereadNumbers (rereadOutcome (rereadUnder 1 0 (λ m m′. rereadCall m m′ (bytes "1.2.3") 6 6 0))), record { outcome = counts 1 1 0; normal = 0 })
+    ∷ []
+
+-- where a part begins, and its size
+abbrev pub spans : List (Span × Span)
+spans = (partAt 3 (bytes "ab"), record { from = 3; size = 2 }) ∷ (partAt 3 [], record { from = 0; size = 0 }) ∷ []
+
 -- yes and no by their numbers
 unfoldable pub verdicts : List (Verdict × Verdict)
 unfolding verdict
 verdicts =
-    (verdict (accepted true), record { refusal = 0; admitted = 1 })
-    ∷ (verdict (accepted false), record { refusal = 0; admitted = 0 })
-    ∷ (verdict (refused 8), record { refusal = 8; admitted = 0 })
+    (verdict (accepted true), record { refusal = 0; yes = 1 })
+    ∷ (verdict (accepted false), record { refusal = 0; yes = 0 })
+    ∷ (verdict (refused 8), record { refusal = 8; yes = 0 })
     ∷ []
 
 -- ---- what code looks at again
