@@ -23,7 +23,7 @@ use Rattle.rangeset.specs.Views.{outcomeOf}
 use Rattle.rangeset.proofs.read.Reads as Read
 use Rattle.numbers.specs.Views.{outcome}
 use Rattle.maluwesi.proofs.maluwesi_read.Reads as MaluwesiRead
-use Rattle.rangeset.proofs.Words.{words-length, names-length}
+use Rattle.rules.proofs.RowsLaws.{words-length, names-length}
 use Rattle.reference.specs.Range.{Compat}
 use Rattle.reference.specs.RangeSet.{Returned, parse}
 use Rattle.reference.specs.Seen.{mode, seen}
