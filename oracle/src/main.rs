@@ -14,6 +14,7 @@ mod sample;
 mod shelf;
 mod shelf_calls;
 mod shelf_model;
+mod shelf_rows;
 mod tables;
 mod texts;
 

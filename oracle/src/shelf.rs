@@ -1,11 +1,13 @@
 //! The library's shelf beside the model of it (shelf_model.rs): random calls on memory that calls built and on memory
-//! that none did. Of each call the answer and every byte is compared.
+//! that none did. Of each call the answer and every byte is compared. And the rows of crates/shelf_edges beside the
+//! model.
 
 use crate::admission::{random_range, version_near};
 use crate::random::{damaged, noise, number, Random};
 use crate::report::{shown, Differences};
 use crate::shelf_calls as library;
 use crate::shelf_model::{self as model, Readings, ENTRIES, ENTRY, SIZE, TEXT};
+use crate::shelf_rows;
 use std::collections::BTreeMap;
 use std::process::ExitCode;
 use std::time::Instant;
@@ -46,10 +48,13 @@ pub fn compare_all(seed: u64) -> ExitCode {
         println!("{call:>10} {number:>4} {count:>9}");
     }
     println!("none fits in {} answers of first fit", tally.none_fits);
-    print!("{}", tally.differences);
+    let (rows, row_differences) = shelf_rows::compare();
+    println!("{rows} rows of shelf_edges: {} differences", row_differences.count);
+    print!("{}{row_differences}", tally.differences);
     println!("{} seconds", start.elapsed().as_secs());
-    println!("{} calls, {} differences", tally.calls, tally.differences.count);
-    ExitCode::from(u8::from(tally.differences.count > 0))
+    let differences = tally.differences.count + row_differences.count;
+    println!("{} calls, {differences} differences", tally.calls);
+    ExitCode::from(u8::from(differences > 0))
 }
 
 // ---- what the calls are made with
