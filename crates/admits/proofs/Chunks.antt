@@ -1,7 +1,7 @@
 -- The lines of a chunk: that each lies within it, that what is held of a line that is not ended lies within its own slice, and the answers within
 -- the block.
 -- Assumes nothing.
-use Prim.Native.Nat.{ℕ, _+_, _-_, _≤_}
+use Prim.Native.Nat.{ℕ, _-_, _≤_}
 use mathlib.Core.Path.{_≡_, refl}
 use mathlib.Core.List.{List}
 use native.Mathlib.Omega.{arith}

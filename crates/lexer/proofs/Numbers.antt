@@ -4,12 +4,12 @@
 use Prim.Native.Nat.{ℕ, suc, _+_, _*_, _-_, _<_, _≤_}
 use mathlib.Core.Path.{_≡_, refl, _∙_, sym, ap, ap₂}
 use mathlib.Core.List.{List, [], _∷_}
-use mathlib.Core.Bool.{Bool, true, false, not}
+use mathlib.Core.Bool.{Bool, true, false}
 use native.Mathlib.Omega.{arith}
 use native.Mathlib.Decide.{decLe}
 use native.Mathlib.Numerals.{add-one}
-use borrow.Author.Tests.{leb-true, leb-false, lt-leb, le-leb, eq-eqb, ne-eqb}
-use lib.Dec.{leb, eqb, lit<}
+use borrow.Author.Tests.{leb-true, lt-leb, le-leb, eq-eqb, ne-eqb}
+use lib.Dec.{leb, lit<}
 use mir.Val.{Fits}
 use mir.Syntax.{w64}
 use lib.ListN.{length, getD, drop, take, length-drop}

@@ -1,7 +1,7 @@
 -- A loop that passes the bytes of a class: what it knows at the place i, and what each of its ways gives. One law for every class.
 -- Assumes nothing.
 use Prim.Native.Nat.{ℕ, suc, _+_, _-_, _<_, _≤_}
-use mathlib.Core.Path.{_≡_, refl, _∙_, sym}
+use mathlib.Core.Path.{_≡_, _∙_, sym}
 use mathlib.Core.List.{List}
 use mathlib.Core.Bool.{Bool, true, false}
 use native.Mathlib.Omega.{arith}
@@ -9,7 +9,6 @@ use native.Mathlib.Numerals.{add-one}
 use lib.ListN.{length, getD, drop, drop-of-length-le, length-drop}
 use lib.Seq.{drop-cons}
 use Rattle.rules.specs.Parse.{count}
-use Rattle.rules.proofs.Left.{count-within}
 use Rattle.lexer.specs.Views.{rest}
 
 module _ (p : ℕ → Bool) (s : List ℕ) (i : ℕ) where

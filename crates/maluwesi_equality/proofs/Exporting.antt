@@ -30,22 +30,22 @@ use Rattle.maluwesi_equality.specs.declared.Modes.the-variants as Both
 -- ---- the modes
 
 -- the modes with these numbers, where each is a mode or none
-abbrev both : Option E.Compat → Option E.Compat → Answer (E.Compat × E.Compat)
-both a b = andThen (orRefused 255 a) (λ m. mapAnswer (λ m′. (m, m′)) (orRefused 255 b))
+abbrev modesFrom : Option E.Compat → Option E.Compat → Answer (E.Compat × E.Compat)
+modesFrom a b = andThen (orRefused 255 a) (λ m. mapAnswer (λ m′. (m, m′)) (orRefused 255 b))
 
 module _ (k : ℕ) (m : Mode) (e : modeIs m ≡ E.modeFrom k) (l : ℕ) where
   pub first-none : m ≡ One.Nothing → modesAre Both.Nothing ≡ modesOf k l
-  first-none q = ap (λ a. both a (E.modeFrom l)) (ap modeIs (sym q) ∙ e)
+  first-none q = ap (λ a. modesFrom a (E.modeFrom l)) (ap modeIs (sym q) ∙ e)
 
   module _ (c : Compat) (q : m ≡ One.Compat c) (m′ : Mode) (e′ : modeIs m′ ≡ E.modeFrom l) where
-    second : modesOf k l ≡ both (some (compatOf c)) (modeIs m′)
-    second = ap (λ a. both a (E.modeFrom l)) (sym (ap modeIs (sym q) ∙ e)) ∙ ap (both (some (compatOf c))) (sym e′)
+    second : modesOf k l ≡ modesFrom (some (compatOf c)) (modeIs m′)
+    second = ap (λ a. modesFrom a (E.modeFrom l)) (sym (ap modeIs (sym q) ∙ e)) ∙ ap (modesFrom (some (compatOf c))) (sym e′)
 
     pub second-none : m′ ≡ One.Nothing → modesAre Both.Nothing ≡ modesOf k l
-    second-none q′ = sym (second ∙ ap (λ x. both (some (compatOf c)) (modeIs x)) q′)
+    second-none q′ = sym (second ∙ ap (λ x. modesFrom (some (compatOf c)) (modeIs x)) q′)
 
     pub both-modes : (c′ : Compat) → m′ ≡ One.Compat c′ → modesAre (Both.Compats c c′) ≡ modesOf k l
-    both-modes c′ q′ = sym (second ∙ ap (λ x. both (some (compatOf c)) (modeIs x)) q′)
+    both-modes c′ q′ = sym (second ∙ ap (λ x. modesFrom (some (compatOf c)) (modeIs x)) q′)
 
 pub ruleset pairs = (first-none, second-none, both-modes)
 

@@ -1,6 +1,5 @@
 // Answers and lent memory on standard output, for the program `replay`.
 ghost use Prim.Native.Nat.{_≤_};
-ghost use lib.ListN.{length};
 use admission::Admission;
 use equality::Equality;
 use equality::Reread;

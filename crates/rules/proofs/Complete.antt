@@ -3,19 +3,18 @@
 use mathlib.Core.Path.{_≡_, refl, sym, ap, _∙_}
 use Prim.Native.Nat.{ℕ, zero, suc, _+_, _≤_, _<_}
 use native.Mathlib.Omega.{arith}
-use mathlib.Core.Logic.{_⊎_, inl, inr}
 use mathlib.Core.Bool.{Bool, true, false, _||_}
 use mathlib.Core.Option.{Option}
 use mathlib.Core.List.{List, [], _∷_}
 use lib.Dec.{eqb}
-use lib.ListN.{length, take, drop, length-drop}
+use lib.ListN.{length, length-drop}
 use borrow.Author.Tests.{eq-eqb}
 use Rattle.rules.specs.Bytes.{bytes, isSpace, isDigit, isNonzero, isLetter, isWord, isWild, isSign}
 use Rattle.rules.specs.Syntax.{Identifier, Partial, Prefix, bare, tilde, caret, op, Item, item, Range, items, hyphen}
 use Rattle.rules.specs.Grammar as G
 use Rattle.rules.specs.Grammar.{OneOf, Run, Literal, Many, Spaces, Spaces₁, ReadsNumber, ReadsComponent, ReadsIdentifier, ReadsDotIdentifier, ReadsIdentifiers, ReadsQualifier, ReadsPartial, ReadsPrefix, ReadsItem, Gap, ReadsNext, Dash, ReadsRange, Separator, ReadsFurther, ReadsText}
 use Rattle.rules.specs.Parse.{Result, fail, ok, _then_, choose, many, oneOf, count, run, literal, skip, spaces₁, readNumber, readComponent, readIdentifier, readDotIdentifier, readIdentifiers, readQualifier, readDot, afterThree, afterTwo, afterOne, readPartial, readPrefix, readItem, readGap, readNext, readDash, readItems, afterItem, readRange, readSeparator, readFurther, atEnd, readText}
-use Rattle.rules.proofs.Follows.{Stops, passes, nonzero-stops, number-stops, letter-stops, space-stops, sign-stops, begins-none, partial-stops, spaced-stops, item-stops, Ends, ends-stops, space-ends, spaces₁-ends, After, then-end, then-bar, after-ends, items-ends, ranges-after}
+use Rattle.rules.proofs.Follows.{Stops, passes, nonzero-stops, number-stops, letter-stops, space-stops, sign-stops, begins-none, partial-stops, spaced-stops, item-stops, Ends, ends-stops, spaces₁-ends, After, then-end, then-bar, after-ends, items-ends, ranges-after}
 
 -- ---- how much is left
 

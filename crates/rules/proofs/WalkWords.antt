@@ -6,7 +6,7 @@ use mathlib.Core.Option.{Option, none, some}
 use mathlib.Core.List.{List, [], _∷_, _++_, map, append-assoc, append-nil}
 use Rattle.rules.specs.Lists.{concat, All, all[], all∷}
 use Rattle.rules.specs.Syntax.{Partial, identifiersOf, Identifier, Range}
-use Rattle.rules.specs.Expansion.{Compat, Component, major, minor, patch, Piece, piece, Comparator, asRead, raised, comparators, expandRange, pieces, comparatorsOf, Reading, expand}
+use Rattle.rules.specs.Expansion.{Compat, Component, major, minor, patch, Piece, piece, Comparator, asRead, raised, comparators, expandRange, pieces, comparatorsOf, expand}
 use Rattle.rules.specs.Rows.{identifiersIn, comparatorRow, rowsFrom, comparatorWords, identifierRow, allIdentifiers, identifierWords}
 use Rattle.rules.specs.Walk.{pieceComparatorWords, pieceIdentifierWords, walkComparatorWords, walkIdentifierWords}
 use Rattle.rules.proofs.Tallies.{Named, range-named}

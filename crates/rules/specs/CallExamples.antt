@@ -12,7 +12,7 @@ use Rattle.rules.specs.Parse.{leftOf, readNumber, foundIn}
 use Rattle.rules.specs.Expansion.{Compat, cargo, npm}
 use Rattle.rules.specs.NormalText.{spell}
 use Rattle.rules.specs.Answers.{Answer, accepted, refused, readingCall, Outcome, readingOutcome, comparatorWordsAfter, identifierWordsAfter, identifierBytes, normalTextCall, Length, normalTextOutcome, bytesAfter}
-use Rattle.rules.specs.Equality.{readingHandedBack, textHandedBack, Reread, textRefused, normalRefused, rereadCall, Refuses, neither, theText, itsNormalText, RereadOutcome, rereadOutcome, rereadBytesAfter, rereadComparatorsAfter, rereadIdentifiersAfter, textsCall, textsEqual, firstAfter, secondAfter}
+use Rattle.rules.specs.Equality.{readingHandedBack, textHandedBack, textRefused, normalRefused, rereadCall, Refuses, neither, theText, itsNormalText, RereadOutcome, rereadOutcome, rereadBytesAfter, rereadComparatorsAfter, rereadIdentifiersAfter, textsCall, textsEqual, firstAfter, secondAfter}
 use Rattle.rules.specs.Version.{versionIdentifiersIn}
 use Rattle.rules.specs.Exported.{modeOf, under, modesOf, underBoth, rereadUnder, RereadNumbers, rereadNumbers, Verdict, verdict, Span, partAt}
 

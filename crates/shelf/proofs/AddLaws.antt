@@ -18,7 +18,8 @@ use Rattle.rangeset.specs.declared.Refusal.the-variants as Refusals
 use Rattle.rangeset.specs.declared.Counts.{Counts}
 use Rattle.rangeset.specs.declared.Reading.{Reading}
 use Rattle.rangeset.specs.declared.Reading.the-variants as R
-use Rattle.rangeset.proofs.Outcomes.{refusal-number, reading-number}
+use Rattle.rangeset.proofs.Outcomes.{refusal-number}
+use Rattle.rules.proofs.Accepted.{reading-number}
 use Rattle.shelf_rules.specs.Table.{rowsOf}
 use Rattle.shelf_rules.specs.Shelf.{capacity, longestText, entryRow, countIn, findCode, isNone, shelfIn, entryReading, withEntry, addCall, refusalOf, shelfAfter}
 use Rattle.shelf_rules.proofs.EntryLaws.{reading-within}

@@ -1,10 +1,10 @@
 -- The bytes that a call moves: that they are within the slice that was lent.
 -- Assumes nothing.
-use Prim.Native.Nat.{ℕ, _+_, _-_, _≤_}
+use Prim.Native.Nat.{ℕ, _≤_}
 use mathlib.Core.Path.{_≡_, subst}
 use mathlib.Core.List.{List}
 use native.Mathlib.Omega.{arith}
-use lib.ListN.{length, take, drop, length-take, length-drop}
+use lib.ListN.{length, take, length-take}
 use Rattle.io.specs.Counts.{Counts}
 use Rattle.streams.specs.Views.{bytesOf}
 use Rattle.streams.specs.declared.Input.{Input}

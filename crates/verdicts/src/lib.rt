@@ -1,6 +1,5 @@
 // The work of the program `admits`: the line for a version, the line for a refused range, and the bytes of a line that comes in parts. Each
 // writer writes from the byte `at` on, or from the start, and answers the place behind what it wrote.
-ghost use mathlib.Core.Path.{_≡_};
 ghost use Prim.Native.Nat.{_+_, _-_, _≤_};
 ghost use lib.ListN.{length, take};
 ghost use Rattle.rules.specs.Admits.{spellVerdict, verdictLine, answerLine, refusedRange, verdictRoom};

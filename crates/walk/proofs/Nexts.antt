@@ -7,16 +7,15 @@ use mathlib.Core.Bool.{Bool, true, false}
 use mathlib.Core.List.{List, [], _∷_}
 use lib.ListN.{length, drop}
 use Rattle.rules.specs.Bytes.{pick, isSpace}
-use Rattle.rules.specs.Syntax as S
 use Rattle.rules.specs.Parse.{Result, fail, ok, count, skip, leftOf, readPartial}
 use Rattle.rules.specs.Expansion as E
 use Rattle.rules.specs.Walk as W
-use Rattle.rules.proofs.Left.{Behind, behind-both, behind-left, partial-behind, Took, took, failed}
-use Rattle.partial.specs.Views.{held, partialOf, fromStart}
+use Rattle.rules.proofs.Left.{Behind, behind-both, behind-left, partial-behind, took, failed}
+use Rattle.partial.specs.Views.{partialOf, fromStart}
 use Rattle.partial.specs.declared.Partial.{Partial}
 use Rattle.partial.proofs.Unread.{Rest}
 use Rattle.partial.proofs.Reading.{partial-left}
-use Rattle.range.specs.Views.{compatOf, prefixOf, prefixFor}
+use Rattle.range.specs.Views.{compatOf, prefixOf}
 use Rattle.range.specs.declared.Compat.{Compat}
 use Rattle.range.specs.declared.Lead.{Lead}
 use Rattle.range.proofs.Leads.{prefix-read}

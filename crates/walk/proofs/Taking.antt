@@ -1,30 +1,27 @@
 -- A piece that is read, and the step that it gives: a law for each way of the functions that make it.
 -- Assumes nothing.
-use Prim.Native.Nat.{ℕ, suc, _≤_}
+use Prim.Native.Nat.{ℕ, suc}
 use native.Mathlib.Omega.{arith}
 use native.Mathlib.Decide.{decLe}
 use mathlib.Core.Path.{_≡_, refl, _∙_, sym, ap}
 use mathlib.Core.Bool.{Bool, true, false}
 use mathlib.Core.Option.{Option, none, some}
-use mathlib.Core.List.{List, [], _∷_}
+use mathlib.Core.List.{List, []}
 use borrow.Author.Tests.{le-leb, lt-leb, eq-eqb, ne-eqb}
-use lib.Dec.{leb, eqb}
-use lib.ListN.{length, drop}
+use lib.Dec.{eqb}
+use lib.ListN.{length}
 use mir.Val.{Fits}
 use mir.Syntax.{w64}
-use Rattle.rules.specs.Bytes.{pick, isSpace, largest}
+use Rattle.rules.specs.Bytes.{pick, largest}
 use Rattle.rules.specs.Syntax as S
 use Rattle.rules.specs.Parse.{count, skip}
 use Rattle.rules.specs.Expansion as E
-use Rattle.rules.specs.Expansion.{majorOf, minorOf, patchOf, componentOf, expandItem, expandLeft, expandRight, partialIn}
-use Rattle.rules.specs.Answers.{partialFits}
+use Rattle.rules.specs.Expansion.{majorOf, minorOf, patchOf, expandItem, expandLeft, expandRight, partialIn}
 use Rattle.rules.specs.Walk as W
 use Rattle.rules.proofs.Pieces.{gives-partial, item-gives, left-partial, right-partial}
 use Rattle.lexer.specs.Views.{saturated, tooLarge}
 use Rattle.partial.specs.Views.{kindOf, held}
 use Rattle.partial.specs.declared.Partial.{Partial}
-use Rattle.partial.specs.declared.PartialKind.{PartialKind}
-use Rattle.partial.specs.declared.PartialKind.the-variants.{XRangeOnly, MajorOnly}
 use Rattle.range.specs.Views.{compatOf, prefixOf, shapeOf, raisedOf, expansionOf}
 use Rattle.range.specs.declared.Compat.{Compat}
 use Rattle.range.specs.declared.Prefix.{Prefix}

@@ -2,7 +2,7 @@
 -- Assumes nothing.
 use Prim.Native.Nat.{ℕ, _+_, _≤_}
 use native.Mathlib.Omega.{arith}
-use mathlib.Core.Path.{_≡_, refl, ap, _∙_}
+use mathlib.Core.Path.{_≡_, refl}
 use mathlib.Core.Bool.{Bool, true, false}
 use mathlib.Core.List.{List, []}
 use lib.ListN.{length}
@@ -20,7 +20,7 @@ use Rattle.partial.proofs.Unread.{Rest}
 use Rattle.range.specs.Views.{compatOf, prefixOf}
 use Rattle.range.specs.declared.Compat.{Compat}
 use Rattle.range.specs.declared.Lead.{Lead}
-use Rattle.walk.specs.Views.{stageOf, behindOf, isRange, leadAt, stepOf, stepAt, unreadAt, behindAt, takenAt, Takes}
+use Rattle.walk.specs.Views.{stageOf, behindOf, isRange, leadAt, stepOf, unreadAt, behindAt, takenAt, Takes}
 use Rattle.walk.specs.declared.Behind as Code
 use Rattle.walk.specs.declared.Stage.{Stage}
 use Rattle.walk.specs.declared.Step.{Step}
