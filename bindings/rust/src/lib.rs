@@ -2,7 +2,7 @@
 //!
 //! [`RangeSet::parse`] gives what that crate gives. Where it would panic or wrap, and for a text
 //! longer than 65,535 bytes, a [`Refusal`] comes back. [`normal_text`], [`read_normal_text`],
-//! [`equal_readings`] and [`admits`] are added.
+//! [`equal_readings`], [`admits`] and [`Shelf`] are added.
 //!
 //! ```
 //! use maluwesi::{Compat, Op, RangeSet, Refusal};
