@@ -8,7 +8,7 @@ ghost use Rattle.range.specs.Views.{compatOf};
 ghost use Rattle.passes.specs.Views.{Accepts};
 use range::Compat;
 use streams::Input;
-use streams::is_word;
+use streams::same_word;
 use verdicts::hold;
 use verdicts::put_refused_range;
 use verdicts::put_verdict;
@@ -233,11 +233,11 @@ fn main() {
         usage();
         return;
     }
-    if is_word(&mode[..n], b"cargo") {
+    if same_word(&mode[..n], b"cargo") {
         run_mode(Compat::Cargo);
         return;
     }
-    if is_word(&mode[..n], b"npm") {
+    if same_word(&mode[..n], b"npm") {
         run_mode(Compat::Npm);
         return;
     }

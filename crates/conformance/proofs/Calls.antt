@@ -10,8 +10,8 @@ use Rattle.rules.specs.Syntax.{Identifier, number, text}
 use Rattle.rules.specs.Expansion as E
 use Rattle.rules.specs.Expansion.{Comparator, comparator, Reading}
 use Rattle.rules.specs.Rows.{comparatorWords, identifierWords, placeless, placelessComparator, placelessReading}
-use Rattle.rules.specs.Answers.{Answer, accepted, refused, longest, reading, comparatorRows, identifierRows, readingCall, Outcome, readingOutcome, written, comparatorWordsAfter, identifierWordsAfter}
-use Rattle.rules.specs.Equality.{andThen, handedBack}
+use Rattle.rules.specs.Answers.{Answer, accepted, refused, longest, reading, comparatorRows, identifierRows, readingCall, Outcome, readingOutcome, written, comparatorWordsAfter, identifierWordsAfter, andThen}
+use Rattle.rules.specs.Equality.{handedBack}
 use Rattle.rules.specs.Exported.{modeOf, under}
 use Rattle.rules.proofs.Accepted.{Decided, long, underivable, large, raised, accepts, decided}
 use Rattle.rules.proofs.ReadBackLaws.{read-back}
@@ -108,9 +108,9 @@ read-parse m κs args r exit p e =
     call-parse m (now (args .0)) (now (args .1 .1 .0)) (now (args .1 .1 .1 .0)) (readingCall (compatOf (args .1 .0)) (now (args .0)) (length (now (args .1 .1 .0))) (length (now (args .1 .1 .1 .0))))
     (outcomeOf r) (now (exit .1 .1 .0)) (now (exit .1 .1 .1 .0)) (rw e refl) (p .0) (p .1 .0) (p .1 .1)
 
-under-mode : {A : Type 0} (k : ℕ) (m : E.Compat) (f : E.Compat → Answer A) → modeOf k ≡ accepted m → under k f ≡ f m
+under-accepted : {A : Type 0} (k : ℕ) (m : E.Compat) (f : E.Compat → Answer A) → modeOf k ≡ accepted m → under k f ≡ f m
 unfolding under
-under-mode k m f e = ap (λ a. andThen a f) e
+under-accepted k m f e = ap (λ a. andThen a f) e
 
 pub maluwesi-read-parse : (m : Compat) (κs : _) (args : _) (n : _) (exit : _) → MaluwesiRead.Post κs args n exit → modeOf (args .1 .0) ≡ accepted (mode m)
     → length (now (args .0)) ≤ longest → RowsFit (parse m (now (args .0))) (length (now (args .1 .1 .0))) (length (now (args .1 .1 .1 .0)))
@@ -119,4 +119,4 @@ pub maluwesi-read-parse : (m : Compat) (κs : _) (args : _) (n : _) (exit : _) �
 maluwesi-read-parse m κs args n exit p e =
     call-parse m (now (args .0)) (now (args .1 .1 .0)) (now (args .1 .1 .1 .0)) (under (args .1 .0) (λ m. readingCall m (now (args .0)) (length (now (args .1 .1 .0))) (length (now (args .1 .1 .1 .0)))))
     (outcome n (now (exit .1 .1 .1 .1 .0)) (now (exit .1 .1 .1 .1 .1 .0)) (now (exit .1 .1 .1 .1 .1 .1 .0))) (now (exit .1 .1 .0)) (now (exit .1 .1 .1 .0))
-    (under-mode (args .1 .0) (mode m) _ e) (p .0) (p .1 .0) (p .1 .1)
+    (under-accepted (args .1 .0) (mode m) _ e) (p .0) (p .1 .0) (p .1 .1)

@@ -12,7 +12,7 @@ use lib.Seq.{drop-cons}
 use Rattle.rules.specs.Expansion as E
 use Rattle.rules.specs.Expansion.{Compat}
 use Rattle.rules.specs.NormalText.{spell}
-use Rattle.rules.specs.Answers.{Answer, accepted, refused, reading, normalText, normalTextCall, normalTextOutcome, written, bytesAfter}
+use Rattle.rules.specs.Answers.{Answer, accepted, refused, textOf, reading, normalText, normalTextCall, normalTextOutcome, written, bytesAfter}
 use Rattle.rules.specs.Equality.{sameBytes, Texts, textsCall, textsEqual, firstAfter, secondAfter, Tells}
 use Rattle.rules.proofs.NormalTextCall.{normal-accepts}
 use Rattle.rules.proofs.RoundTrip.{same-reading}
@@ -23,7 +23,7 @@ use Rattle.normal_text.specs.Views.{lengthOf}
 use Rattle.normal_text.specs.declared.NormalText.{NormalText}
 use Rattle.normal_text.specs.declared.NormalText.the-variants as T
 use Rattle.normal_text.proofs.Calls.{Writes, written-call, refused-call}
-use Rattle.equality.specs.Views.{textOf, Fits, Checks, answerOf}
+use Rattle.equality.specs.Views.{Fits, Checks, answerOf}
 use Rattle.equality.specs.declared.Equality.the-variants as Equality
 use Rattle.equality.proofs.Fitting.{normal, part-within, part-is, part-length, call-fits}
 

@@ -3,7 +3,7 @@
 use Prim.Native.Nat.{ℕ, _≤_}
 use mathlib.Core.Path.{_≡_}
 use mathlib.Core.Bool.{Bool, true, false}
-use mathlib.Core.List.{List, []}
+use mathlib.Core.List.{List}
 use lib.ListN.{length}
 use Rattle.rules.specs.Expansion as E
 use Rattle.rules.specs.Expansion.{Compat}
@@ -42,11 +42,6 @@ pub record Decides (m : Compat) (s : List ℕ) (lent cw iw : ℕ) (o : RereadOut
   pub is : (m′ : Compat) → o ≡ rereadOutcome (rereadCall m m′ s lent cw iw)
 
 -- ---- two texts, compared
-
--- the text of an answer, if there is one
-abbrev pub textOf : Answer (List ℕ) → List ℕ
-textOf (accepted w) = w
-textOf (refused n) = []
 
 -- r is the refusal of the call, if there is one
 abbrev pub Checks : Answer Texts → NormalText → Type 0

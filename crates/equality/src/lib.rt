@@ -1,10 +1,10 @@
 // Requirement 3 in calls: a normal text read again under another mode, and two texts whose readings are compared by their normal texts.
 ghost use mathlib.Core.Path.{_≡_};
 ghost use lib.ListN.{length};
-ghost use Rattle.rules.specs.Answers.{reading, readingOutcome, normalText, normalTextOutcome, bytesAfter};
+ghost use Rattle.rules.specs.Answers.{textOf, reading, readingOutcome, normalText, normalTextOutcome, bytesAfter};
 ghost use Rattle.rules.specs.Equality.{rereadCall, rereadOutcome, rereadBytesAfter, rereadComparatorsAfter, rereadIdentifiersAfter, Restores, sameBytes, textsCall, textsEqual, firstAfter, secondAfter, Tells};
 ghost use Rattle.range.specs.Views.{compatOf};
-ghost use Rattle.equality.specs.Views.{Fits, countsOf, Decides, rereadOf, textOf, Checks, answerOf};
+ghost use Rattle.equality.specs.Views.{Fits, countsOf, Decides, rereadOf, Checks, answerOf};
 use normal_text::NormalText;
 use normal_text::normal_text;
 use normal_text::normal_text_len;
@@ -107,7 +107,7 @@ pub fn read_normal_text(
 
 // ---- two texts, compared
 
-pub fn same_bytes(a: &[u8], b: &[u8]) -> bool
+fn same_bytes(a: &[u8], b: &[u8]) -> bool
     ensures { λ r. ⌜ r ≡ sameBytes (now (a .entry)) (now (b .entry)) ⌝ }
 {
     if a.len() != b.len() {

@@ -1,6 +1,6 @@
-// The calls as Rust and C make them (bindings/): a slice is passed as a pointer and a length, and the mode as a number. Each returns 0, or the
-// number of the refusal, and leaves the counts where it is told to. The names begin with the library's, since they are the whole program's. The calls
-// that stand on these are exported by `maluwesi_equality`.
+// The calls as Rust and C make them (bindings/): a slice is passed as a pointer and a length, and the mode as a number. Each but the
+// identifier bytes call returns 0, or the number of the refusal, and leaves its answer where it is told to. The names begin with the library's, since
+// they are the whole program's. The calls that stand on these are exported by `maluwesi_equality`, and the shelf's by `maluwesi_shelf`.
 ghost use mathlib.Core.Path.{_≡_};
 ghost use lib.ListN.{length, take, drop};
 ghost use Rattle.rules.specs.Answers.{reading, readingCall, readingOutcome, comparatorWordsAfter, identifierWordsAfter, identifierBytes, normalTextCall, normalTextOutcome, bytesAfter};

@@ -5,9 +5,9 @@ use mathlib.Core.Path.{_≡_, refl, sym, ap, _∙_}
 use mathlib.Core.List.{List}
 use mathlib.Core.Option.{Option, some}
 use Rattle.rules.specs.Expansion as E
-use Rattle.rules.specs.Answers.{Answer, refused, orRefused, mapAnswer, readingOutcome, written}
+use Rattle.rules.specs.Answers.{Answer, refused, orRefused, mapAnswer, readingOutcome, written, andThen}
 use Rattle.rules.specs.Equality as Q
-use Rattle.rules.specs.Equality.{andThen, rereadOutcome, rereadBytesAfter, rereadComparatorsAfter, rereadIdentifiersAfter, Texts, textsEqual, firstAfter, secondAfter}
+use Rattle.rules.specs.Equality.{rereadOutcome, rereadBytesAfter, rereadComparatorsAfter, rereadIdentifiersAfter, Texts, textsEqual, firstAfter, secondAfter}
 use Rattle.rules.specs.Exported.{modesOf, underBoth, rereadUnder, RereadNumbers, rereadNumbers, Verdict, verdict}
 use Rattle.range.specs.Views.{compatOf, modeIs}
 use Rattle.range.specs.declared.Compat.{Compat}

@@ -1,4 +1,4 @@
-// The calls of `equality` as Rust and C make them (bindings/), as `maluwesi` has the others. They stand apart since they call those: in one library
+// The calls of `equality` as Rust and C make them (bindings/), as `maluwesi` has the others. They stand apart since they call those: in one crate
 // the functions that both call would no longer be compiled into each (docs/DECISIONS.md).
 ghost use mathlib.Core.Path.{_≡_};
 ghost use lib.ListN.{length};

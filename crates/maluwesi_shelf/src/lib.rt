@@ -1,5 +1,6 @@
 // The shelf's calls as Rust and C make them (bindings/), beside the calls of crates/maluwesi and in their manner: each returns 0, or the number of
-// the refusal, and leaves what was asked for where it is told to. A refusal leaves zeros there.
+// the refusal, and leaves what was asked for where it is told to. A refused change leaves the shelf as it was; a refused listing or first fit leaves
+// zeros in the places that it is given.
 ghost use mathlib.Core.Path.{_≡_};
 ghost use Rattle.rules.specs.Admission.{admits};
 ghost use Rattle.rules.specs.Exported.{under};
@@ -73,7 +74,7 @@ fn put_fit(a: Fit, found: &mut u8, code: &mut u16) -> u64
 // ---- the calls that change a shelf
 
 #[no_mangle]
-pub extern "C" fn maluwesi_shelf_clear(shelf: &mut [u8]) -> u64
+pub extern "C" fn maluwesi_shelf_make_empty(shelf: &mut [u8]) -> u64
     ensures { λ n. ⌜ n ≡ refusalOf (emptyCall (now (shelf .entry))) ⌝ }
     ensures bytes { λ _. ⌜ now (shelf .exit) ≡ shelfAfter (emptyCall (now (shelf .entry))) (now (shelf .entry)) ⌝ }
 {
@@ -103,7 +104,7 @@ pub extern "C" fn maluwesi_shelf_remove(shelf: &mut [u8], code: u16) -> u64
 // ---- the listing, and first fit
 
 #[no_mangle]
-pub extern "C" fn maluwesi_shelf_find(
+pub extern "C" fn maluwesi_shelf_list(
     shelf: &[u8],
     code: u16,
     place: &mut usize,

@@ -9,7 +9,7 @@ use native.Mathlib.Omega.{arith}
 use lib.ListN.{length, getD, take, drop, length-drop}
 use Rattle.rules.specs.Bytes.{bytes, isWild, isSign, value}
 use Rattle.rules.specs.Syntax as S
-use Rattle.rules.specs.Parse.{Result, fail, ok, _then_, choose, oneOf, literal, leftOf, readNumber, readComponent, readDot, readIdentifiers, readQualifier, afterThree, afterTwo, afterOne}
+use Rattle.rules.specs.Parse.{Result, fail, ok, _then_, choose, oneOf, leftOf, readNumber, readComponent, readDot, readIdentifiers, readQualifier, afterThree, afterTwo, afterOne}
 use Rattle.rules.proofs.Results.{Gives, given, gives-then, gives-map}
 use Rattle.rules.proofs.Sound.{number-sound}
 use Rattle.rules.proofs.Complete.{one-fails}

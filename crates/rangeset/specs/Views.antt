@@ -68,7 +68,7 @@ pub record Writable (m : Compat) (s : List ℕ) (words ids : ℕ) : Type 0 where
 
 -- ---- the answer
 
--- 01's numbers
+-- the numbers in 01, and from 10 on in 02
 abbrev pub numberOf : Refusal → ℕ
 numberOf Refusal.TooLong = 1
 numberOf Refusal.NoReading = 2

@@ -100,7 +100,7 @@ pub enum Refusal {
 }
 
 impl Refusal {
-    // 01's number.
+    // The number in 01, or from 10 on in 02.
     pub fn number(self) -> u64
         ensures { λ r. ⌜ r ≡ numberOf self ⌝ }
     {

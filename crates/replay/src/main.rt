@@ -6,8 +6,8 @@
 //     CALL CARGO NPM WORDS IDS SIZE GIVEN SIZE GIVEN
 //
 // CARGO is how many bytes are lent where the call is made under Cargo, and NPM where it is made under Npm; WORDS and IDS how many words are lent
-// for comparators and for identifiers. SIZE is how many bytes a text has, and GIVEN how many of them stand in the row: in a text that has more, its
-// last byte but two and the one behind it are repeated before the last. CALL is one of
+// for comparators and for identifiers. SIZE is how many bytes a text has, and GIVEN how many of them stand in the row: in a text that has more, the
+// last two of these are repeated behind them. CALL is one of
 //
 //     0  a heading: the text says what the rows behind it are
 //     1  the normal text
@@ -16,7 +16,8 @@
 //     4  the normal text read again, under the other mode
 //     5  the readings compared: with the second text under Npm, whose normal text is lent WORDS bytes
 //     6  plainform
-//     7, 8, 9  as 1, 2 and 4, with enough lent for every text, of which the end is printed
+//     7, 8, 9  as 1, 2 and 4, for long texts: of what is lent the end is printed; 8 and 9 are lent comparator words for every text, 8 identifier
+//              words too, and 9 none
 //
 // A line for each mode, Cargo first, has 01's number and what is counted, `yes` or `no`, or `equal` or `different`; behind it, or in lines of their
 // own, stand all lent bytes, which held `_` before, and all lent words, which held 7.
@@ -91,7 +92,7 @@ fn show_plainform(input: &[u8], out: &mut [u8]) {
     }
 }
 
-// ---- the calls with room for every text
+// ---- the calls on long texts, and plainform
 
 fn show_all(
     numbers: [u64; 9],

@@ -20,7 +20,7 @@ use Rattle.rules.specs.Answers.{refused, longest, reading}
 use Rattle.rules.proofs.Follows.{both, either}
 use Rattle.rules.proofs.Accepted.{refused-2}
 
-abbrev Low : ℕ → Type 0
+abbrev pub Low : ℕ → Type 0
 Low c = c < 0x80
 
 -- ---- the classes
@@ -147,7 +147,7 @@ range-low G.empty k = k
 further-low : {s r : List ℕ} {a : Range} → ReadsFurther s a r → Lows s r
 further-low (G.further (G.separator l b l′) a) k = spaces-low l (literal-low refl b (spaces-low l′ (range-low a k)))
 
-text-low : {t : List ℕ} {rs : List Range} → ReadsText t rs → All Low t
+pub text-low : {t : List ℕ} {rs : List Range} → ReadsText t rs → All Low t
 text-low (ReadsText.whole l a m e) = spaces-low l (range-low a (many-low (λ s a r. further-low) m (spaces-low e all[])))
 
 -- ---- the theorem

@@ -292,9 +292,6 @@ prereleases-keyed [] (j ∷ js) = refl
 prereleases-keyed (i ∷ is) [] = refl
 prereleases-keyed (i ∷ is) (j ∷ js) = series-ordered .keyed (i ∷ is) (j ∷ js)
 
-pub prereleases-ordered : Ordered (map placeless) comparePrereleases
-prereleases-ordered = record { turned = prereleases-turned; chained = prereleases-chained; same = prereleases-same; keyed = prereleases-keyed }
-
 -- ---- versions
 
 versions-turned : (v w : Version) → Turned (precedence v w) (precedence w v)

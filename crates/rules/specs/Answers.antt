@@ -60,6 +60,16 @@ abbrev pub mapAnswer : {A B : Type 0} → (A → B) → Answer A → Answer B
 mapAnswer f (accepted a) = accepted (f a)
 mapAnswer f (refused n) = refused n
 
+-- a call, and a second one with what the first hands back
+abbrev pub andThen : {A B : Type 0} → Answer A → (A → Answer B) → Answer B
+andThen (refused n) f = refused n
+andThen (accepted a) f = f a
+
+-- the text that is handed back, or none
+abbrev pub textOf : Answer (List ℕ) → List ℕ
+textOf (accepted w) = w
+textOf (refused n) = []
+
 -- what is there, or the refusal
 abbrev pub orRefused : {A : Type 0} → ℕ → Option A → Answer A
 orRefused n none = refused n

@@ -1,11 +1,11 @@
 -- The calls with what they are lent: what each hands back, and all lent words and bytes before and after it. A lent word holds 9 before the call,
 -- and a lent byte `_`. Theorem 15 holds the definitions to them.
 -- Assumes nothing.
-use Prim.Native.Nat.{ℕ, zero, suc}
+use Prim.Native.Nat.{ℕ}
 use Prim.Native.String.{String}
 use mathlib.Core.Bool.{Bool, true, false}
 use mathlib.Core.List.{List, [], _∷_}
-use lib.ListN.{length}
+use lib.ListN.{length, replicate}
 use Rattle.rules.specs.Bytes.{bytes}
 use Rattle.rules.specs.Syntax.{Identifier, number, text}
 use Rattle.rules.specs.Parse.{leftOf, readNumber, foundIn}
@@ -16,13 +16,8 @@ use Rattle.rules.specs.Equality.{readingHandedBack, textHandedBack, text
 use Rattle.rules.specs.Version.{versionIdentifiersIn}
 use Rattle.rules.specs.Exported.{modeOf, under, modesOf, underBoth, rereadUnder, RereadNumbers, rereadNumbers, Verdict, verdict, Span, partAt}
 
--- the same byte or word, so many times
-abbrev pub repeated : ℕ → ℕ → List ℕ
-repeated c zero = []
-repeated c (suc n) = c ∷ repeated c n
-
 abbrev pub nines : ℕ → List ℕ
-nines n = repeated 9 n
+nines n = replicate n 9
 
 -- "A refused call hands back its number and zero counts"
 abbrev pub counts : ℕ → ℕ → ℕ → Outcome

@@ -10,7 +10,7 @@ use lib.ListN.{length, take}
 use Rattle.rules.specs.Expansion.{Compat, Reading}
 use Rattle.rules.specs.Rows.{placelessReading}
 use Rattle.rules.specs.NormalText.{spell}
-use Rattle.rules.specs.Answers.{Answer, accepted, refused, mapAnswer, longest, reading, comparatorRows, identifierRows, readingCall, Outcome, readingOutcome, written, comparatorWordsAfter, identifierWordsAfter, normalTextCall, normalTextOutcome, bytesAfter}
+use Rattle.rules.specs.Answers.{Answer, accepted, refused, mapAnswer, longest, reading, comparatorRows, identifierRows, readingCall, Outcome, readingOutcome, written, comparatorWordsAfter, identifierWordsAfter, normalTextCall, normalTextOutcome, bytesAfter, andThen}
 use Rattle.rules.specs.ReadBack.{readBack}
 
 -- ---- what the calls hand back
@@ -102,11 +102,6 @@ sameBytes [] [] = true
 sameBytes [] (d ∷ w′) = false
 sameBytes (c ∷ w) [] = false
 sameBytes (c ∷ w) (d ∷ w′) = eqb c d && sameBytes w w′
-
--- a call, and a second one with what the first hands back
-abbrev pub andThen : {A B : Type 0} → Answer A → (A → Answer B) → Answer B
-andThen (refused n) f = refused n
-andThen (accepted a) f = f a
 
 pub record Texts : Type 0 where
   pub first : List ℕ

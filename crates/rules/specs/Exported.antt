@@ -5,8 +5,8 @@ use mathlib.Core.Bool.{Bool, true, false}
 use mathlib.Core.List.{List, [], _∷_}
 use lib.ListN.{length}
 use Rattle.rules.specs.Expansion.{Compat, modeFrom}
-use Rattle.rules.specs.Answers.{Answer, accepted, refused, mapAnswer, orRefused, Outcome}
-use Rattle.rules.specs.Equality.{Reread, textRefused, Refuses, neither, theText, itsNormalText, RereadOutcome, andThen}
+use Rattle.rules.specs.Answers.{Answer, accepted, refused, mapAnswer, orRefused, Outcome, andThen}
+use Rattle.rules.specs.Equality.{Reread, textRefused, Refuses, neither, theText, itsNormalText, RereadOutcome}
 
 -- The mode with this number. Another number is no mode, and is refused before the text is looked at, under a number that no refusal of 01 and 02
 -- has.

@@ -6,11 +6,11 @@ use mathlib.Core.List.{List}
 use native.Mathlib.Omega.{arith}
 use lib.ListN.{length, drop}
 use borrow.Author.Tests.{le-leb}
-use Rattle.rules.specs.Answers.{accepted, refused, mapAnswer, orRefused, identifierBytes}
+use Rattle.rules.specs.Answers.{accepted, refused, textOf, mapAnswer, orRefused, identifierBytes}
 use Rattle.rangeset.specs.Views.{numberOf}
 use Rattle.rangeset.specs.declared.Refusal.{Refusal}
 use Rattle.shelf_rules.specs.Table.{rowsOf}
-use Rattle.shelf_rules.specs.Shelf.{countIn, findCode, shelfIn, located, textPart, textCall, textOr, listCall}
+use Rattle.shelf_rules.specs.Shelf.{countIn, findCode, shelfIn, located, textPart, textCall, listCall}
 use Rattle.shelf_rules.proofs.ListingLaws.{listed-part, listed-within, refused-text}
 use Rattle.entries.specs.Views.{Counted, countOf, foundOf, partOf, partAt}
 use Rattle.entries.specs.declared.Part.{Part}
@@ -53,14 +53,14 @@ pub ruleset lists = (whole-counted, list-not)
 -- ---- text
 
 module _ (l : List ℕ) (code : ℕ) (a : Listing) (e : listingOf a ≡ listCall code l) where
-  pub text-listed : (p : Part) → a ≡ Listing.Text p → (y : List ℕ) → y ≡ identifierBytes l (p .place) (p .length) → y ≡ textOr (textCall code l)
+  pub text-listed : (p : Part) → a ≡ Listing.Text p → (y : List ℕ) → y ≡ identifierBytes l (p .place) (p .length) → y ≡ textOf (textCall code l)
   text-listed p q y f =
       let i : listCall code l ≡ accepted (partOf p) = sym e ∙ ap listingOf q in
-      f ∙ rw (le-leb (p .place + p .length) (length l) (listed-within code l (partOf p) i)) (sym (ap textOr (listed-part code l (partOf p) i)))
+      f ∙ rw (le-leb (p .place + p .length) (length l) (listed-within code l (partOf p) i)) (sym (ap textOf (listed-part code l (partOf p) i)))
 
-  pub text-refused : (x : Refusal) → a ≡ Listing.Refused x → (y : List ℕ) → y ≡ identifierBytes l 0 0 → y ≡ textOr (textCall code l)
+  pub text-refused : (x : Refusal) → a ≡ Listing.Refused x → (y : List ℕ) → y ≡ identifierBytes l 0 0 → y ≡ textOf (textCall code l)
   text-refused x q y f =
       let i : listCall code l ≡ refused (numberOf x) = sym e ∙ ap listingOf q in
-      f ∙ rw (le-leb 0 (length l) (omega arith)) (sym (ap textOr (refused-text code l (numberOf x) i)))
+      f ∙ rw (le-leb 0 (length l) (omega arith)) (sym (ap textOf (refused-text code l (numberOf x) i)))
 
 pub ruleset texts = (text-listed, text-refused)

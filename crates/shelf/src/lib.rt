@@ -1,9 +1,9 @@
 // A shelf of parts in lent bytes (02, N1): make empty, add, remove and the listing. "Shelf", "part code", "entry" and "listing" are 02's words.
 ghost use mathlib.Core.Path.{_≡_};
-ghost use Rattle.rules.specs.Answers.{readingOutcome};
+ghost use Rattle.rules.specs.Answers.{textOf, readingOutcome};
 ghost use Rattle.range.specs.Views.{compatOf};
 ghost use Rattle.rangeset.specs.Views.{outcomeOf};
-ghost use Rattle.shelf_rules.specs.Shelf.{refusalOf, shelfAfter, entryReading, emptyCall, addCall, removeCall, textCall, textOr, listCall};
+ghost use Rattle.shelf_rules.specs.Shelf.{refusalOf, shelfAfter, entryReading, emptyCall, addCall, removeCall, textCall, listCall};
 ghost use Rattle.entries.specs.Views.{Counted};
 ghost use Rattle.shelf.specs.Views.{Enterable, changeOf, listingOf};
 use entries::CAPACITY;
@@ -158,7 +158,7 @@ pub fn list(shelf: &[u8], code: u16) -> Listing
 
 // That text itself, as a part of the shelf; the empty part where the listing is refused.
 pub fn text<'a>(shelf: &'a [u8], code: u16) -> &'a [u8]
-    ensures { λ r. ⌜ now r ≡ textOr (textCall code (now (shelf .entry))) ⌝ }
+    ensures { λ r. ⌜ now r ≡ textOf (textCall code (now (shelf .entry))) ⌝ }
 {
     let a = list(shelf, code);
     match a {

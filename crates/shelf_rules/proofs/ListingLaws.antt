@@ -10,8 +10,7 @@ use lib.Dec.{leb, eqb, leb→le, eqb→eq}
 use lib.ListN.{length, take, drop}
 use lib.Seq.{take-take, drop-drop}
 use Rattle.rules.specs.Bytes.{pick}
-use Rattle.rules.specs.Answers.{Answer, accepted, refused, unless, mapAnswer, orRefused}
-use Rattle.rules.specs.Equality.{andThen}
+use Rattle.rules.specs.Answers.{Answer, accepted, refused, unless, mapAnswer, orRefused, andThen}
 use Rattle.shelf_rules.specs.Shelf.{shelfSize, capacity, longestText, countIn, lengthIn, textIn, entriesIn, entryAt, findCode, sized, shelfIn, located, Part, textPart, textCall, listCall}
 use Rattle.shelf_rules.proofs.TableLaws.{rows-length, rows-at}
 use Rattle.shelf_rules.proofs.EntryLaws.{find-within}

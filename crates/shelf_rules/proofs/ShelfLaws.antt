@@ -13,8 +13,7 @@ use Rattle.rules.specs.Bytes.{pick}
 use Rattle.rules.specs.Lists.{All, all[], all∷}
 use Rattle.rules.specs.Walk.{mapOption}
 use Rattle.rules.specs.Expansion.{Compat, Reading}
-use Rattle.rules.specs.Answers.{Answer, accepted, refused, unless, mapAnswer, orRefused, reading}
-use Rattle.rules.specs.Equality.{andThen}
+use Rattle.rules.specs.Answers.{Answer, accepted, refused, unless, mapAnswer, orRefused, reading, andThen}
 use Rattle.rules.specs.Admission.{Question, admitsIf, versionOf}
 use Rattle.shelf_rules.specs.Table.{lowFirst, without, table}
 use Rattle.shelf_rules.specs.Shelf.{shelfSize, capacity, entryRow, countIn, entriesIn, withEntry, withoutEntry, findCode, isNone, sized, shelfIn, located, entryReading, emptied, emptyCall, addCall, removeCall, textIn, textCall, firstFitCall}

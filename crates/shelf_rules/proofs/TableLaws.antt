@@ -88,20 +88,6 @@ all-without k all[] = all[]
 all-without zero (all∷ h hs) = hs
 all-without (suc k) (all∷ h hs) = all∷ h (all-without k hs)
 
-module _ (w n : ℕ) (b : List ℕ) (h : w * n ≤ length b) where
-  pub rows-added : (e : List ℕ) → length e ≡ w → rowsOf w (suc n) (rowAdded w n e b) ≡ rowsOf w n b ++ (e ∷ [])
-  unfolding rowAdded
-  rows-added e q =
-      let s : length (rowsOf w n b ++ (e ∷ [])) ≡ suc n = omega (arith, length-append (rowsOf w n b) (e ∷ []), rows-length w n b) in
-      rw s at (rows-of w (rowsOf w n b ++ (e ∷ [])) (drop (w * suc n) b) (all-snoc (rows-wide w n b h) q))
-
-  pub rows-removed : (k : ℕ) → k < n → rowsOf w (n - 1) (rowRemoved w n k b) ≡ without k (rowsOf w n b)
-  unfolding rowRemoved
-  rows-removed k l =
-      let r = rows-length w n b in
-      let s : length (without k (rowsOf w n b)) ≡ n - 1 = without-length k (rowsOf w n b) (omega arith) ∙ rw r in
-      rw s at (rows-of w (without k (rowsOf w n b)) (replicate w 0 ++ drop (w * n) b) (all-without k (rows-wide w n b h)))
-
 -- ---- a number is had back from its bytes
 
 pub low-back : (n v : ℕ) → v < 256 ^ n → numberIn (lowFirst n v) ≡ v

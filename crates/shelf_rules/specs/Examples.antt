@@ -35,6 +35,10 @@ two = memory (2 ∷ 0 ∷ (row₁ ++ row₂)) 0
 abbrev pub full : List ℕ
 full = memory (0 ∷ 1 ∷ []) 0
 
+-- one entry, of code 7, Npm, with 96 blanks
+abbrev pub blanks : List ℕ
+blanks = memory (1 ∷ 0 ∷ 7 ∷ 0 ∷ 1 ∷ 96 ∷ replicate 96 32) 0
+
 -- memory that no call built: one entry, of code 7, with a length of 97; with mode 2; with a refused text
 abbrev pub tooLong : List ℕ
 tooLong = memory (1 ∷ 0 ∷ 7 ∷ 0 ∷ 0 ∷ 97 ∷ []) 0
@@ -77,6 +81,7 @@ changes =
     ∷ changed (memory (0 ∷ 0 ∷ []) 9) (add 65535 npm "") (accepted (memory (1 ∷ 0 ∷ 255 ∷ 255 ∷ 1 ∷ 0 ∷ replicate 96 0) 9))
     ∷ changed (replicate 25603 0) (add 7 npm "!") (refused 10)
     ∷ changed (memory (1 ∷ 1 ∷ []) 0) (add 7 npm "!") (refused 10)
+    ∷ changed (memory [] 0) (add 7 npm "                                                                                                ") (accepted blanks)
     ∷ changed two (add 7 npm "                                                                                                 ") (refused 1)
     ∷ changed two (add 7 npm "1a") (refused 2)
     ∷ changed two (add 7 npm "18446744073709551616") (refused 3)
@@ -112,6 +117,7 @@ unfoldable pub listings : List Listed
 listings =
     listed two 7 6 6 "^1.2.3"
     ∷ listed two 258 106 1 "2"
+    ∷ listed blanks 7 6 96 "                                                                                                "
     ∷ listed tooLong 7 6 0 ""
     ∷ listed otherMode 7 6 0 ""
     ∷ listed noReading 7 6 1 "!"
@@ -150,6 +156,7 @@ fits =
     ∷ fit (memory [] 0) "1.0.0" (accepted none)
     ∷ fit full "1.0.0" (accepted (some 0))
     ∷ fit (memory (1 ∷ 0 ∷ 7 ∷ 0 ∷ 1 ∷ []) 0) "1.0.0" (accepted (some 7))
+    ∷ fit blanks "1.0.0" (accepted (some 7))
     ∷ fit tooLong "1.0.0" (accepted none)
     ∷ fit otherMode "1.0.0" (accepted none)
     ∷ fit noReading "1.0.0" (accepted none)

@@ -1,4 +1,5 @@
--- The shelf's calls as Rust and C make them: what is left in the places that they are given. A refusal leaves zeros.
+-- The shelf's calls that answer with more than a number, as Rust and C make them: what is left in the places that they are given. A refusal leaves
+-- zeros.
 -- Assumes nothing.
 use Prim.Native.Nat.{ℕ}
 use mathlib.Core.Option.{Option, none, some}

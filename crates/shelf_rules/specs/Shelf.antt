@@ -9,8 +9,7 @@ use lib.Dec.{leb, ltb, eqb}
 use lib.ListN.{length, take, drop, getD, replicate}
 use Rattle.rules.specs.Bytes.{pick}
 use Rattle.rules.specs.Expansion.{Compat, modeNumber, modeFrom, Reading}
-use Rattle.rules.specs.Answers.{Answer, accepted, refused, unless, mapAnswer, orRefused, reading}
-use Rattle.rules.specs.Equality.{andThen}
+use Rattle.rules.specs.Answers.{Answer, accepted, refused, unless, mapAnswer, orRefused, reading, andThen}
 use Rattle.rules.specs.Version.{Version}
 use Rattle.rules.specs.Admission.{Question, admitsIf, versionOf}
 use Rattle.shelf_rules.specs.Table.{rowsOf, lowFirst, numberIn, rowAdded, rowRemoved}
@@ -151,11 +150,6 @@ entryAt k l = getD (entriesIn l) k []
 unfoldable pub textCall : ℕ → List ℕ → Answer (List ℕ)
 unfolding shelfIn located entriesIn
 textCall code l = andThen (shelfIn l) (λ l. mapAnswer (λ k. textIn (entryAt k l)) (located code l))
-
--- the text, where it is handed back as a part of the shelf: the empty part where the listing is refused
-abbrev pub textOr : Answer (List ℕ) → List ℕ
-textOr (accepted t) = t
-textOr (refused n) = []
 
 -- where that text stands in the shelf, and how long it is
 pub record Part : Type 0 where

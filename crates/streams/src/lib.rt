@@ -1,8 +1,12 @@
 // The manners of the programs on their standard streams. A read that fails is told from the end of the input, and a write that takes a part of its
 // bytes is followed by another. What a signal interrupts is tried again, and so is a call on a non-blocking descriptor that is not ready. No contract
 // can say which bytes are read or written.
+ghost use mathlib.Core.Path.{_≡_};
+ghost use mathlib.Core.Bool.{_&&_};
 ghost use Prim.Native.Nat.{_≤_};
+ghost use lib.Dec.{eqb};
 ghost use lib.ListN.{length};
+ghost use Rattle.lexer.specs.Views.{startsWith};
 ghost use Rattle.io.specs.Counts.{Counts};
 ghost use Rattle.streams.specs.Views.{bytesOf};
 use lexer::starts_with;
@@ -126,14 +130,17 @@ pub fn print(program: &[u8], text: &[u8]) -> bool {
 
 // ---- the arguments
 
-pub fn is_word(word: &[u8], letters: &[u8]) -> bool {
+// Whether the word is these letters.
+pub fn same_word(word: &[u8], letters: &[u8]) -> bool
+    ensures { λ r. ⌜ r ≡ (eqb (length (now (word .entry))) (length (now (letters .entry))) && startsWith (now (letters .entry)) (now (word .entry))) ⌝ }
+{
     (word.len() == letters.len()) & starts_with(word, letters)
 }
 
 fn is_help() -> bool {
     let mut word = [0u8; 8];
     let n = os::arg(1, &mut word);
-    (os::arg_count() == 2) & is_word(&word[..n], b"--help")
+    (os::arg_count() == 2) & same_word(&word[..n], b"--help")
 }
 
 // How the program is called: to standard output where its one argument is `--help`, and to standard error where its arguments are wrong.
