@@ -29,12 +29,12 @@ and-ascii : (a b : Bool) → a ≡ true → b ≡ true → (a && b) ≡ true
 and-ascii true b e h = h
 and-ascii false b e h = e
 
-low-ascii : {s : List ℕ} → All Low s → Ascii s
-low-ascii all[] = refl
-low-ascii (all∷ {c} {s} h l) = and-ascii (ascii c) (each ascii s) (le-leb c 127 (omega arith)) (low-ascii l)
+low-ascii : (s : List ℕ) → All Low s → Ascii s
+low-ascii [] all[] = refl
+low-ascii (c ∷ s) (all∷ h l) = and-ascii (ascii c) (each ascii s) (le-leb c 127 (omega arith)) (low-ascii s l)
 
 pub text-ascii : {s : List ℕ} {l : List Range} → ReadsText s l → Ascii s
-text-ascii d = low-ascii (text-low d)
+text-ascii {s} d = low-ascii s (text-low d)
 
 -- ---- UTF-8
 

@@ -134,7 +134,10 @@ pub fn print(program: &[u8], text: &[u8]) -> bool {
 pub fn same_word(word: &[u8], letters: &[u8]) -> bool
     ensures { λ r. ⌜ r ≡ (eqb (length (now (word .entry))) (length (now (letters .entry))) && startsWith (now (letters .entry)) (now (word .entry))) ⌝ }
 {
-    (word.len() == letters.len()) & starts_with(word, letters)
+    if word.len() == letters.len() {
+        return starts_with(word, letters);
+    }
+    false
 }
 
 fn is_help() -> bool {
