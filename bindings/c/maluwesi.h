@@ -85,7 +85,7 @@ uint64_t maluwesi_equal_readings(const uint8_t *text, size_t text_len, uint8_t m
 #define MALUWESI_SHELF_BYTES 25602
 
 /* Makes it empty: zeros in all bytes. Refuses with 10, by the length alone. */
-uint64_t maluwesi_shelf_make_empty(uint8_t *shelf, size_t shelf_len);
+uint64_t maluwesi_shelf_clear(uint8_t *shelf, size_t shelf_len);
 
 /* Puts an entry behind the others. Refuses with 10; then 1 to 4 for the text, with 96 bytes as its limit; then 12, then 11. */
 uint64_t maluwesi_shelf_add(uint8_t *shelf, size_t shelf_len, uint16_t code, uint8_t mode,
@@ -95,7 +95,7 @@ uint64_t maluwesi_shelf_add(uint8_t *shelf, size_t shelf_len, uint16_t code, uin
 uint64_t maluwesi_shelf_remove(uint8_t *shelf, size_t shelf_len, uint16_t code);
 
 /* The listing: where in the shelf the text of the first entry with the code stands, and how long it is. Refuses with 10 and 12. */
-uint64_t maluwesi_shelf_list(const uint8_t *shelf, size_t shelf_len, uint16_t code, size_t *place, size_t *len);
+uint64_t maluwesi_shelf_find(const uint8_t *shelf, size_t shelf_len, uint16_t code, size_t *place, size_t *len);
 
 /* First fit: the code of the first entry whose text admits the version, with 1 in found; where none does, 0 in both, and that is no refusal.
  * Refuses with 10, 8 and 9. */

@@ -58,7 +58,7 @@ struct part {
 static struct part found(uint16_t code)
 {
     struct part p = {UNTOUCHED, UNTOUCHED, UNTOUCHED};
-    p.number = maluwesi_shelf_list(shelf, SIZE, code, &p.place, &p.len);
+    p.number = maluwesi_shelf_find(shelf, SIZE, code, &p.place, &p.len);
     return p;
 }
 
@@ -92,7 +92,7 @@ static void check_entries(void)
     static const char text[] = "entries";
     fill(UNTOUCHED);
     memset(wanted, 0, SIZE);
-    CHECK(maluwesi_shelf_make_empty(shelf, SIZE) == MALUWESI_OK);
+    CHECK(maluwesi_shelf_clear(shelf, SIZE) == MALUWESI_OK);
     CHECK(as_expected());
     CHECK(fit_is(fitting("1.2.3"), MALUWESI_OK, 0, 0));
 
@@ -172,10 +172,10 @@ static void check_no_shelf(void)
         size_t place = UNTOUCHED, len = UNTOUCHED;
         uint8_t one = UNTOUCHED;
         uint16_t code = UNTOUCHED_CODE;
-        CHECK(maluwesi_shelf_make_empty(shelf, lengths[i]) == MALUWESI_NOT_SHELF);
+        CHECK(maluwesi_shelf_clear(shelf, lengths[i]) == MALUWESI_NOT_SHELF);
         CHECK(maluwesi_shelf_add(shelf, lengths[i], 7, MALUWESI_NPM, bytes("!"), 1) == MALUWESI_NOT_SHELF);
         CHECK(maluwesi_shelf_remove(shelf, lengths[i], 7) == MALUWESI_NOT_SHELF);
-        CHECK(maluwesi_shelf_list(shelf, lengths[i], 7, &place, &len) == MALUWESI_NOT_SHELF);
+        CHECK(maluwesi_shelf_find(shelf, lengths[i], 7, &place, &len) == MALUWESI_NOT_SHELF);
         CHECK(place == 0 && len == 0);
         CHECK(maluwesi_shelf_first_fit(shelf, lengths[i], bytes("none"), 4, &one, &code) == MALUWESI_NOT_SHELF);
         CHECK(one == 0 && code == 0);
@@ -188,7 +188,7 @@ static void check_no_shelf(void)
     CHECK(part_is(found(0), MALUWESI_NOT_SHELF, 0, 0));
     CHECK(fit_is(fitting("none"), MALUWESI_NOT_SHELF, 0, 0));
     CHECK(as_expected());
-    CHECK(maluwesi_shelf_make_empty(shelf, SIZE) == MALUWESI_OK);
+    CHECK(maluwesi_shelf_clear(shelf, SIZE) == MALUWESI_OK);
     put_count(wanted, 0);
     CHECK(as_expected());
 }

@@ -4,7 +4,7 @@
 use maluwesi::ffi;
 
 pub fn clear(shelf: &mut [u8]) -> u64 {
-    unsafe { ffi::maluwesi_shelf_make_empty(shelf.as_mut_ptr(), shelf.len()) }
+    unsafe { ffi::maluwesi_shelf_clear(shelf.as_mut_ptr(), shelf.len()) }
 }
 
 pub fn add(shelf: &mut [u8], code: u16, mode: u8, text: &[u8]) -> u64 {
@@ -17,7 +17,7 @@ pub fn remove(shelf: &mut [u8], code: u16) -> u64 {
 
 pub fn find(shelf: &[u8], code: u16) -> (u64, usize, usize) {
     let (mut place, mut length) = (0x5A5A, 0x5A5A_5A5A);
-    let number = unsafe { ffi::maluwesi_shelf_list(shelf.as_ptr(), shelf.len(), code, &mut place, &mut length) };
+    let number = unsafe { ffi::maluwesi_shelf_find(shelf.as_ptr(), shelf.len(), code, &mut place, &mut length) };
     (number, place, length)
 }
 

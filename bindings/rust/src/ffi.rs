@@ -93,7 +93,7 @@ extern "C" {
         equal: *mut u8,
     ) -> u64;
 
-    pub fn maluwesi_shelf_make_empty(shelf: *mut u8, shelf_len: usize) -> u64;
+    pub fn maluwesi_shelf_clear(shelf: *mut u8, shelf_len: usize) -> u64;
 
     pub fn maluwesi_shelf_add(
         shelf: *mut u8,
@@ -106,7 +106,7 @@ extern "C" {
 
     pub fn maluwesi_shelf_remove(shelf: *mut u8, shelf_len: usize, code: u16) -> u64;
 
-    pub fn maluwesi_shelf_list(
+    pub fn maluwesi_shelf_find(
         shelf: *const u8,
         shelf_len: usize,
         code: u16,

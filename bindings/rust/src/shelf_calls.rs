@@ -9,7 +9,7 @@ pub const SHELF_BYTES: usize = 25_602;
 
 pub fn clear(shelf: &mut [u8]) -> Result<(), Refusal> {
     // SAFETY: the shelf is an exclusive slice with its length.
-    accepted(unsafe { ffi::maluwesi_shelf_make_empty(shelf.as_mut_ptr(), shelf.len()) })
+    accepted(unsafe { ffi::maluwesi_shelf_clear(shelf.as_mut_ptr(), shelf.len()) })
 }
 
 pub fn add(shelf: &mut [u8], code: u16, compat: Compat, text: &[u8]) -> Result<(), Refusal> {
@@ -36,7 +36,7 @@ pub fn find(shelf: &[u8], code: u16) -> Result<Range<usize>, Refusal> {
     let (mut place, mut len) = (0, 0);
     // SAFETY: the shelf is a slice with its length; place and len are locals.
     let number =
-        unsafe { ffi::maluwesi_shelf_list(shelf.as_ptr(), shelf.len(), code, &mut place, &mut len) };
+        unsafe { ffi::maluwesi_shelf_find(shelf.as_ptr(), shelf.len(), code, &mut place, &mut len) };
     accepted(number).map(|()| place..place + len)
 }
 

@@ -74,7 +74,7 @@ fn put_fit(a: Fit, found: &mut u8, code: &mut u16) -> u64
 // ---- the calls that change a shelf
 
 #[no_mangle]
-pub extern "C" fn maluwesi_shelf_make_empty(shelf: &mut [u8]) -> u64
+pub extern "C" fn maluwesi_shelf_clear(shelf: &mut [u8]) -> u64
     ensures { λ n. ⌜ n ≡ refusalOf (emptyCall (now (shelf .entry))) ⌝ }
     ensures bytes { λ _. ⌜ now (shelf .exit) ≡ shelfAfter (emptyCall (now (shelf .entry))) (now (shelf .entry)) ⌝ }
 {
@@ -104,7 +104,7 @@ pub extern "C" fn maluwesi_shelf_remove(shelf: &mut [u8], code: u16) -> u64
 // ---- the listing, and first fit
 
 #[no_mangle]
-pub extern "C" fn maluwesi_shelf_list(
+pub extern "C" fn maluwesi_shelf_find(
     shelf: &[u8],
     code: u16,
     place: &mut usize,

@@ -19,9 +19,9 @@ ghost use Prim.Native.Nat.{_≤_, _<_};
 ghost use lib.ListN.{length};
 use lexer::read_number;
 use maluwesi_shelf::maluwesi_shelf_add;
+use maluwesi_shelf::maluwesi_shelf_clear;
+use maluwesi_shelf::maluwesi_shelf_find;
 use maluwesi_shelf::maluwesi_shelf_first_fit;
-use maluwesi_shelf::maluwesi_shelf_list;
-use maluwesi_shelf::maluwesi_shelf_make_empty;
 use maluwesi_shelf::maluwesi_shelf_remove;
 use memory::wide;
 
@@ -62,7 +62,7 @@ fn put_checksum(s: &[u8]) {
 fn show_find(shelf: &[u8], code: u16) {
     let mut place = 1;
     let mut len = 1;
-    put_number(maluwesi_shelf_list(shelf, code, &mut place, &mut len));
+    put_number(maluwesi_shelf_find(shelf, code, &mut place, &mut len));
     put_number(place as u64);
     put_number(len as u64);
 }
@@ -85,7 +85,7 @@ fn set_byte(shelf: &mut [u8], at: u16, byte: u8) {
 fn show(call: u64, shelf: &mut [u8], code: u16, mode: u8, text: &[u8]) {
     match call {
         0 => put(b""),
-        1 => put_number(maluwesi_shelf_make_empty(shelf)),
+        1 => put_number(maluwesi_shelf_clear(shelf)),
         2 => put_number(maluwesi_shelf_add(shelf, code, mode, text)),
         3 => put_number(maluwesi_shelf_remove(shelf, code)),
         4 => show_find(shelf, code),
