@@ -30,6 +30,7 @@ pub mod Once
 pub mod Following
 pub mod StepLeft
 pub mod WalkLaws
+pub mod ExtentLaws
 pub mod StepNames
 pub mod Tallies
 pub mod ReadingCall

@@ -267,6 +267,8 @@ pub struct Step {
     pub over: bool,
     pub stage: Stage,
     pub left: usize,
+    pub begin: usize,
+    pub end: usize,
 }
 
 // The component that is raised is the largest number.
@@ -283,7 +285,7 @@ fn is_over(raised: Raised, major: u64, minor: u64, patch: u64) -> bool
 
 impl Step {
     // The partial p, expanded.
-    fn new(p: Partial, e: Expansion, stage: Stage, left: usize) -> Step
+    fn new(p: Partial, e: Expansion, stage: Stage, left: usize, begin: usize) -> Step
         ensures { λ r. ⌜ Steps p e stage left r ⌝ }
     {
         let kept = e.kept;
@@ -300,12 +302,14 @@ impl Step {
             over: is_over(raised, p.major, p.minor, p.patch),
             stage,
             left,
+            begin,
+            end: p.left,
         }
     }
 
     // No item: every version.
-    fn everything(stage: Stage, left: usize) -> Step
-        ensures { λ r. ⌜ r ≡ everythingTo stage left ⌝ }
+    fn everything(stage: Stage, left: usize, end: usize) -> Step
+        ensures { λ r. ⌜ r ≡ everythingTo stage left end ⌝ }
     {
         Step {
             kept: Kept::Op(Op::Gte),
@@ -319,14 +323,16 @@ impl Step {
             over: false,
             stage,
             left,
+            begin: end,
+            end,
         }
     }
 
     // There is no reading from here on.
-    fn stuck() -> Step
-        ensures { λ r. ⌜ r ≡ stepOf 0 stuck ⌝ }
+    fn stuck(end: usize) -> Step
+        ensures { λ r. ⌜ r ≡ stepOf 0 end stuck ⌝ }
     {
-        Step::everything(Stage::Bad, 0)
+        Step::everything(Stage::Bad, 0, end)
     }
 }
 
@@ -345,48 +351,49 @@ fn right_of(kind: PartialKind) -> Stage
 }
 
 // An item, or the left side of a hyphen range, by what follows it.
-fn taken_item(p: Partial, prefix: Prefix, b: Behind, compat: Compat) -> Step
+fn taken_item(p: Partial, prefix: Prefix, b: Behind, compat: Compat, begin: usize) -> Step
     ensures { λ r. ⌜ Takes p b (taken (compatOf compat) (prefixOf prefix)) r ⌝ }
 {
     let kind = p.kind;
     let stage = b.stage;
     if is_lost(stage) {
-        return Step::stuck();
+        return Step::stuck(p.left);
     }
     if is_right(stage) {
-        return Step::new(p, hyphen_left(kind), right_of(kind), b.left);
+        return Step::new(p, hyphen_left(kind), right_of(kind), b.left, begin);
     }
     Step::new(
         p,
         simple(prefix, kind, p.major, p.minor, compat),
         stage,
         b.left,
+        begin,
     )
 }
 
 // The right side of a hyphen range; its left side was a wildcard, or had a number.
-fn taken_right(p: Partial, stage: Stage, b: Behind) -> Step
+fn taken_right(p: Partial, stage: Stage, b: Behind, begin: usize) -> Step
     ensures { λ r. ⌜ Takes p b (takenRight (stageOf stage)) r ⌝ }
 {
     let kind = p.kind;
     let next = b.stage;
     match stage {
-        Stage::Right => Step::new(p, hyphen_right(PartialKind::MajorOnly, kind), next, b.left),
-        Stage::Only => Step::new(p, hyphen_right(PartialKind::XRangeOnly, kind), next, b.left),
-        Stage::Item => Step::stuck(),
-        Stage::Range => Step::stuck(),
-        Stage::End => Step::stuck(),
-        Stage::Bad => Step::stuck(),
+        Stage::Right => Step::new(p, hyphen_right(PartialKind::MajorOnly, kind), next, b.left, begin),
+        Stage::Only => Step::new(p, hyphen_right(PartialKind::XRangeOnly, kind), next, b.left, begin),
+        Stage::Item => Step::stuck(p.left),
+        Stage::Range => Step::stuck(p.left),
+        Stage::End => Step::stuck(p.left),
+        Stage::Bad => Step::stuck(p.left),
     }
 }
 
-fn taken(p: Partial, prefix: Prefix, stage: Stage, b: Behind, compat: Compat) -> Step
+fn taken(p: Partial, prefix: Prefix, stage: Stage, b: Behind, compat: Compat, begin: usize) -> Step
     ensures { λ r. ⌜ Takes p b (takenAt (compatOf compat) (stageOf stage) (prefixOf prefix)) r ⌝ }
 {
     if is_item(stage) {
-        return taken_item(p, prefix, b, compat);
+        return taken_item(p, prefix, b, compat, begin);
     }
-    taken_right(p, stage, b)
+    taken_right(p, stage, b, begin)
 }
 
 // No partial is read: a range may be empty.
@@ -398,9 +405,9 @@ fn unread(s: &[u8], stage: Stage) -> Step
     if empty {
         let b = closes(s);
         let next = b.stage;
-        return Step::everything(next, b.left);
+        return Step::everything(next, b.left, s.len());
     }
-    Step::stuck()
+    Step::stuck(s.len())
 }
 
 // One piece, expanded, and what stands behind it, where no spaces are to be skipped.
@@ -418,7 +425,7 @@ fn read_piece(s: &[u8], stage: Stage, compat: Compat) -> Step
     }
     let end = s.len() - p.left;
     let b = after_partial(&s[end..], stage, prefix);
-    taken(p, prefix, stage, b, compat)
+    taken(p, prefix, stage, b, compat, s.len())
 }
 
 // One piece, expanded, and what stands behind it.
