@@ -247,7 +247,7 @@ first-bare m s p t = go (following t)
 
     sides : (v : List ℕ) (x : Result Partial)
         → mapOption (λ rs. [] ∷ push (extent (length s) (length s - answer x (λ q u. length u) (length v))) rs)
-            (answer x (λ q r. mapOption (push (extent (length s) (length s - length r))) (ranges r)) none)
+        (answer x (λ q r. mapOption (push (extent (length s) (length s - length r))) (ranges r)) none)
         ≡ mapOption (λ rs. [] ∷ rs) (rangeThen (x then λ q r. ok (upTo s r ∷ upTo s r ∷ []) r))
     sides v fail = refl
     sides v (ok q r) = simp map-twice
@@ -275,7 +275,7 @@ step-first m s = rw (item-at s) (go (readPartial (partialAt s)) (prefixAt s))
 
     go : (x : Result Partial) (f : Prefix)
         → stepped range (length s) (extent (length s) (length s - answer x (λ p r. endBehind r (follow (isBare f) r)) (length s)))
-            (answer x (λ p r. taken m f p (follow (isBare f) r)) (stepTo everything (afterRange s)))
+        (answer x (λ p r. taken m f p (follow (isBare f) r)) (stepTo everything (afterRange s)))
         ≡ mapOption (λ rs. [] ∷ rs) (rangeThen (choose (x then λ p r. ok (S.item f p) r) (λ i t. afterExtents s i t) (ok (extent (length s) 0 ∷ []) s)))
     go fail f = rw itself (step-to range (length s) (extent (length s) 0) everything (afterRange s) ∙ simp (← ranges-closes (length s) s, map-twice))
     go (ok p r) bare = first-bare m s p r

@@ -31,6 +31,7 @@ pub mod Following
 pub mod StepLeft
 pub mod WalkLaws
 pub mod ExtentLaws
+pub mod ExtentSteps
 pub mod StepNames
 pub mod Tallies
 pub mod ReadingCall

@@ -14,7 +14,7 @@ use Rattle.rules.specs.Syntax.{Range, componentsRead}
 use Rattle.rules.specs.Grammar.{ReadsText}
 use Rattle.rules.specs.Parse.{ok, readText}
 use Rattle.rules.specs.Expansion.{Compat, Reading, Adds, pieces}
-use Rattle.rules.specs.Rows.{comparatorWords, identifierWords, allIdentifiers, InText, placelessReading}
+use Rattle.rules.specs.Rows.{comparatorWidth, comparatorWords, identifierWords, allIdentifiers, InText, placelessReading}
 use Rattle.rules.specs.NormalText.{spell}
 use Rattle.rules.specs.Answers.{accepted, refused, longest, rangeFits, reading, normalText, readingCall, readingOutcome, normalTextCall, normalTextOutcome}
 use Rattle.rules.specs.Equality.{readingHandedBack, textHandedBack}
@@ -132,7 +132,7 @@ pub calls-round-trip : (m m′ : Compat) (t out words ids words′ ids′ : List
     → normalTextOutcome (normalTextCall m t (length out)) .refusal ≡ 0
     → readingOutcome (readingCall m t (length words) (length ids)) .refusal ≡ 0
     → length (textHandedBack m t out) ≤ longest
-    → readingOutcome (readingCall m t (length words) (length ids)) .comparators ≤ length words′ / 6
+    → readingOutcome (readingCall m t (length words) (length ids)) .comparators ≤ length words′ / comparatorWidth
     → readingOutcome (readingCall m t (length words) (length ids)) .identifiers ≤ length ids′ / 3
     → (readingOutcome (readingCall m′ (textHandedBack m t out) (length words′) (length ids′)) ≡ readingOutcome (readingCall m t (length words) (length ids)))
     × (placelessReading (readingHandedBack m′ (textHandedBack m t out) words′ ids′) ≡ placelessReading (readingHandedBack m t words ids))
@@ -150,7 +150,7 @@ calls-equal = HandedBack.calls-equal
 
 -- ---- 7. The words of the rows, with the text, determine the reading.
 
-pub read-back : (m : Compat) (t : List ℕ) (rs : Reading) → reading m t ≡ accepted rs → readBack t (comparatorWords rs) (identifierWords (length t) rs) ≡ rs
+pub read-back : (m : Compat) (t : List ℕ) (rs : Reading) → reading m t ≡ accepted rs → readBack t (comparatorWords m t) (identifierWords (length t) rs) ≡ rs
 read-back = ReadBackLaws.read-back
 
 -- ---- 8. Each text identifier of an accepted reading lies within the text, where its bytes stand.
