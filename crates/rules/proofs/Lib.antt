@@ -9,7 +9,6 @@ pub mod Pairwise
 pub mod Exceeded
 pub mod HighBytes
 pub mod Raised
-pub mod Tables
 pub mod Unread
 pub mod Kept
 pub mod ReadIn
@@ -47,4 +46,3 @@ pub mod AdmissionLaws
 pub mod Bound
 pub mod PlainformLaws
 pub mod AdmitsLaws
-pub mod Theorems

@@ -53,7 +53,7 @@ readingCalls =
 unfoldable pub readsAnswered : Reads → Outcome × List ℕ × List ℕ
 unfolding readingCall readingOutcome comparatorWordsAfter identifierWordsAfter
 readsAnswered (reads m t cws iws o cws′ iws′) =
-    let a = readingCall m (bytes t) (length cws) (length iws) in (readingOutcome a, comparatorWordsAfter a cws, identifierWordsAfter (bytes t) a iws)
+    let a = readingCall m (bytes t) (length cws) (length iws) in (readingOutcome a, comparatorWordsAfter m (bytes t) a cws, identifierWordsAfter (bytes t) a iws)
 
 abbrev pub readsExpected : Reads → Outcome × List ℕ × List ℕ
 readsExpected (reads m t cws iws o cws′ iws′) = (o, cws′, iws′)

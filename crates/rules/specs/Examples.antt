@@ -269,7 +269,7 @@ answered (example ms t a) = map (λ m. normalText m (bytes t)) ms
 -- the words of an accepted text, as the reading call fills them
 unfoldable pub wordsOf : Compat → List ℕ → Answer (List ℕ × List ℕ)
 unfolding reading comparatorWords identifierWords
-wordsOf m t = mapAnswer (λ rs. (comparatorWords rs, identifierWords (length t) rs)) (reading m t)
+wordsOf m t = mapAnswer (λ rs. (comparatorWords m t, identifierWords (length t) rs)) (reading m t)
 
 unfoldable pub rowsAnswered : Rows → List (Answer (List ℕ × List ℕ))
 unfolding wordsOf
