@@ -22,7 +22,7 @@ isSide W.end = false
 isSide W.bad = false
 
 -- the item's end, by the stage behind the step
-abbrev ends : W.Stage → List ℕ → ℕ → ℕ
+abbrev pub ends : W.Stage → List ℕ → ℕ → ℕ
 ends W.right v n = endOf W.right v
 ends W.only v n = endOf W.right v
 ends W.item v n = n
@@ -30,7 +30,7 @@ ends W.range v n = n
 ends W.end v n = n
 ends W.bad v n = n
 
-abbrev ended : W.Step → ℕ → ℕ
+abbrev pub ended : W.Step → ℕ → ℕ
 ended (W.step x st r) n = ends st r n
 
 right-ends : (p : S.Partial) (v : List ℕ) (n : ℕ) → ends (W.rightOf p) v n ≡ endOf W.right v

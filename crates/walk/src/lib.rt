@@ -379,8 +379,20 @@ fn taken_right(p: Partial, stage: Stage, b: Behind, begin: usize) -> Step
     let kind = p.kind;
     let next = b.stage;
     match stage {
-        Stage::Right => Step::new(p, hyphen_right(PartialKind::MajorOnly, kind), next, b.left, begin),
-        Stage::Only => Step::new(p, hyphen_right(PartialKind::XRangeOnly, kind), next, b.left, begin),
+        Stage::Right => Step::new(
+            p,
+            hyphen_right(PartialKind::MajorOnly, kind),
+            next,
+            b.left,
+            begin,
+        ),
+        Stage::Only => Step::new(
+            p,
+            hyphen_right(PartialKind::XRangeOnly, kind),
+            next,
+            b.left,
+            begin,
+        ),
         Stage::Item => Step::stuck(begin, p.left),
         Stage::Range => Step::stuck(begin, p.left),
         Stage::End => Step::stuck(begin, p.left),

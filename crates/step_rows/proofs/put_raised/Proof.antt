@@ -1,7 +1,7 @@
-use Rattle.rangeset.proofs.Writing.{raisings}
+use Rattle.step_rows.proofs.Writing.{raisings}
 use borrow.Author.Needs.{needs}
-use Rattle.rangeset.proofs.put_raised.Statement.{statement}
-use Rattle.rangeset.proofs.put_raised.Tie as tie
+use Rattle.step_rows.proofs.put_raised.Statement.{statement}
+use Rattle.step_rows.proofs.put_raised.Tie as tie
 
 pub put-raised-spec : {M : Type 1} → statement M
 put-raised-spec =

@@ -12,8 +12,8 @@ use Rattle.walk.specs.declared.Step.{Step}
 use Rattle.rows.specs.Put.{Put}
 use Rattle.rows.specs.Views.{identifierRows}
 use Rattle.passes.specs.Views.{stepIdentifiers, Signed}
-use Rattle.rangeset.specs.Views.{stepIdentifierWords}
-use Rattle.rangeset.proofs.Writing.{put-nothing}
+use Rattle.step_rows.specs.Views.{stepIdentifierWords}
+use Rattle.step_rows.proofs.Writing.{put-nothing}
 
 module _ (s : List ℕ) (x : Step) (l : List ℕ) where
   pub names-none : x .count ≡ 0 → Put l 0 (stepIdentifierWords s x) l 0

@@ -1,10 +1,10 @@
-use Rattle.rangeset.proofs.Writing.{placing}
+use Rattle.step_rows.proofs.Writing.{placing}
 use borrow.Author.Needs.{needs}
-use Rattle.rangeset.proofs.put_comparators_at.Statement.{statement}
-use Rattle.rangeset.proofs.put_comparators_at.Tie as tie
+use Rattle.step_rows.proofs.put_qualifier_at.Statement.{statement}
+use Rattle.step_rows.proofs.put_qualifier_at.Tie as tie
 
-pub put-comparators-at-spec : {M : Type 1} → statement M
-put-comparators-at-spec =
+pub put-qualifier-at-spec : {M : Type 1} → statement M
+put-qualifier-at-spec =
     tie.close
     (tie.spec
     (λ c. search (placing, needs))

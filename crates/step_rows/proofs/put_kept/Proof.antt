@@ -1,7 +1,7 @@
-use Rattle.rangeset.proofs.Writing.{keeping}
+use Rattle.step_rows.proofs.Writing.{keeping}
 use borrow.Author.Needs.{needs}
-use Rattle.rangeset.proofs.put_kept.Statement.{statement}
-use Rattle.rangeset.proofs.put_kept.Tie as tie
+use Rattle.step_rows.proofs.put_kept.Statement.{statement}
+use Rattle.step_rows.proofs.put_kept.Tie as tie
 
 pub put-kept-spec : {M : Type 1} → statement M
 put-kept-spec =

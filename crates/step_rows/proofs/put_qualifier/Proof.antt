@@ -1,7 +1,7 @@
-use Rattle.rangeset.proofs.Names.{naming}
+use Rattle.step_rows.proofs.Names.{naming}
 use borrow.Author.Needs.{needs}
-use Rattle.rangeset.proofs.put_qualifier.Statement.{statement}
-use Rattle.rangeset.proofs.put_qualifier.Tie as tie
+use Rattle.step_rows.proofs.put_qualifier.Statement.{statement}
+use Rattle.step_rows.proofs.put_qualifier.Tie as tie
 
 pub put-qualifier-spec : {M : Type 1} → statement M
 put-qualifier-spec =

@@ -1,7 +1,7 @@
-use Rattle.rangeset.proofs.Writing.{stepping}
+use Rattle.step_rows.proofs.Writing.{stepping}
 use borrow.Author.Needs.{needs}
-use Rattle.rangeset.proofs.put_comparators.Statement.{statement}
-use Rattle.rangeset.proofs.put_comparators.Tie as tie
+use Rattle.step_rows.proofs.put_comparators.Statement.{statement}
+use Rattle.step_rows.proofs.put_comparators.Tie as tie
 
 pub put-comparators-spec : {M : Type 1} → statement M
 put-comparators-spec =
