@@ -9,6 +9,8 @@ pub mod Pairwise
 pub mod Exceeded
 pub mod HighBytes
 pub mod Raised
+pub mod Tables
+pub mod PartialBytes
 pub mod Unread
 pub mod Kept
 pub mod ReadIn
@@ -30,6 +32,9 @@ pub mod Following
 pub mod StepLeft
 pub mod WalkLaws
 pub mod ExtentLaws
+pub mod DerivedExtentsLaws
+pub mod RowPlaces
+pub mod AlikeExtents
 pub mod ExtentSteps
 pub mod StepNames
 pub mod Tallies
@@ -46,3 +51,4 @@ pub mod AdmissionLaws
 pub mod Bound
 pub mod PlainformLaws
 pub mod AdmitsLaws
+pub mod Theorems

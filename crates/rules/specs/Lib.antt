@@ -5,6 +5,7 @@ pub mod Grammar
 pub mod Parse
 pub mod Expansion
 pub mod Extents
+pub mod DerivedExtents
 pub mod Rows
 pub mod NormalText
 pub mod Answers

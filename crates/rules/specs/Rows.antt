@@ -1,7 +1,7 @@
 -- The words of a reading, and when two readings are equal (01, "What a call hands back").
 -- Assumes nothing.
 use mathlib.Core.Path.{_≡_}
-use Prim.Native.Nat.{ℕ, suc, _-_, _≤_}
+use Prim.Native.Nat.{ℕ, suc, _+_, _-_, _≤_}
 use mathlib.Core.List.{List, [], _∷_, _++_, map}
 use lib.ListN.{length, take, drop}
 use Rattle.rules.specs.Syntax.{Identifier, number, text, Op, lt, lte, gt, gte, eq}
@@ -59,6 +59,12 @@ textPieces m t = map (expandRange m) (listOf (readText t))
 unfoldable pub comparatorWords : Compat → List ℕ → List ℕ
 unfolding rowsFrom
 comparatorWords m t = rowsFrom (length t) 0 (textPieces m t) (listOf (textExtents t))
+
+-- The words are rows of eight whose words seven and eight, place and length (02, N2), lie in a text of n bytes. Cited by theorem 17 alone.
+pub data RowsInText (n : ℕ) : List ℕ → Type 0 where
+  no-row : RowsInText n []
+  row : {k o a b c is place size : ℕ} {ws : List ℕ} → place + size ≤ n → RowsInText n ws
+      → RowsInText n (k ∷ o ∷ a ∷ b ∷ c ∷ is ∷ place ∷ size ∷ ws)
 
 -- ---- identifier rows
 
