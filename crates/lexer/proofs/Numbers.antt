@@ -1,23 +1,22 @@
--- `push`, `read_long`, `read_digits`, `read_number` and `skip_number`: a law for each of their ways. A sum that may be too large has one
--- record, `Summed`, in which the sum is unbounded.
+-- `push`, `read_long`, `read_digits`, `read_number` and `skip_number`: a law for each of their ways.
 -- Assumes nothing.
 use Prim.Native.Nat.{ℕ, suc, _+_, _*_, _-_, _<_, _≤_}
-use mathlib.Core.Path.{_≡_, refl, _∙_, sym, ap, ap₂}
+use mathlib.Core.Path.{_≡_, refl, _∙_, sym, ap}
 use mathlib.Core.List.{List, [], _∷_}
-use mathlib.Core.Bool.{Bool, true, false}
+use mathlib.Core.Bool.{Bool, true, false, not}
 use native.Mathlib.Omega.{arith}
 use native.Mathlib.Decide.{decLe}
 use native.Mathlib.Numerals.{add-one}
-use borrow.Author.Tests.{leb-true, lt-leb, le-leb, eq-eqb, ne-eqb}
-use lib.Dec.{leb, lit<}
+use borrow.Author.Tests.{leb-true, lt-leb, le-leb, eq-eqb, ne-eqb, not-true, not-false}
+use lib.Dec.{leb}
 use mir.Val.{Fits}
 use mir.Syntax.{w64}
 use lib.ListN.{length, getD, drop, take, length-drop}
-use lib.Seq.{drop-cons}
+use lib.Seq.{drop-cons, length-take-le}
 use Rattle.rules.specs.Bytes.{isDigit, isNonzero, value, valueFrom, largest, pick}
 use Rattle.rules.proofs.Follows.{both}
 use Rattle.rules.specs.Parse.{Result, fail, ok, _then_, choose, oneOf, count, run, literal, leftOf, readNumber}
-use Rattle.rules.proofs.Left.{rest-in, left-within, number-behind}
+use Rattle.rules.proofs.Left.{rest-in, count-within, left-within, number-behind}
 use Rattle.lexer.proofs.Scan.{count-end, count-stop, count-step}
 use Rattle.lexer.specs.Views.{rest, saturated, tooLarge, numberFrom, numberOf, digitsAfter, pushed}
 use Rattle.lexer.specs.declared.Sum.{Sum}
@@ -66,11 +65,6 @@ module _ (v c d : ℕ) (e : d ≡ c - 48) where
 
 pub ruleset pushes = (push-fits, push-last, push-tens)
 
--- a digit behind a value that was too large is too large again
-pushed-again : (t c : ℕ) → pushed (saturated t) c ≡ pushed t c
-unfolding pushed
-pushed-again t c = elim (decLe t largest) [ yes h ↦ rw (le-leb t largest h) | no h ↦ rw (lt-leb t largest (omega arith), lt-leb (largest * 10 + (c - 48)) largest (omega arith), lt-leb (t * 10 + (c - 48)) largest (omega arith)) ]
-
 -- ---- digits behind a value
 
 module _ (s : List ℕ) (i v : ℕ) where
@@ -86,85 +80,103 @@ module _ (s : List ℕ) (i v : ℕ) where
   unfolding digitsAfter valueFrom
   digits-step h e = rw (count-step isDigit s i h e, add-one, drop-cons s i 0)
 
--- the digits before the place i are a sum so far
-pub record Summed (start : ℕ) (s : List ℕ) (i value : ℕ) (large : Bool) : Type 0 where
-  pub so-far : ℕ
-  pub within : i ≤ length s
-  pub is : value ≡ saturated so-far
-  pub marked : large ≡ tooLarge so-far
-  pub rest : digitsAfter start s ≡ digitsAfter so-far (drop i s)
+-- digits behind a value make it no smaller
+value-grows : (v : ℕ) (ds : List ℕ) → v ≤ valueFrom v ds
+unfolding valueFrom
+value-grows v [] = omega arith
+value-grows v (c ∷ ds) = let h = value-grows (v * 10 + (c - 48)) ds in omega arith
 
-module _ (start : ℕ) (s : List ℕ) where
-  pub sum-none : Fits w64 start → Summed start s 0 start false
-  sum-none f =
-      let h : start ≤ largest = let l = f .fits in omega arith in
-      record { so-far = start; within = omega arith; is = sym (fits-is start h); marked = sym (fits-not start h); rest = refl }
+-- one at least makes it ten times as large at least
+value-tenfold : (v : ℕ) (ds : List ℕ) → (length ds ≡ 0 → ⊥) → v * 10 ≤ valueFrom v ds
+unfolding valueFrom
+value-tenfold v [] z = absurd (z refl)
+value-tenfold v (c ∷ ds) z = let h = value-grows (v * 10 + (c - 48)) ds in omega arith
 
-  module _ (i v : ℕ) (l : Bool) (h : Summed start s i v l) where
-    answer : (n : ℕ) → digitsAfter start s ≡ numberFrom (h .so-far) n → record { value = v; large = l; left = n } ≡ digitsAfter start s
-    answer n e = number-eq _ _ _ _ _ _ (h .is) (h .marked) refl ∙ sym e
+-- ---- read_long: a digit behind the value start, and n bytes left behind those that follow it
 
-    pub sum-end : length s ≤ i → record { value = v; large = l; left = 0 } ≡ digitsAfter start s
-    sum-end e = answer 0 (h .rest ∙ digits-end s i (h .so-far) e)
+module _ (s : List ℕ) (start : ℕ) (h : 1 ≤ length s) (e : isDigit (getD s 0 0) ≡ true) (n : ℕ) (q : n ≡ length (rest isDigit (take (length s - 1) (drop 1 s)))) where
+  left-is : n ≡ length (rest isDigit (drop 1 s))
+  left-is = rw (rest-in s 1) at q
 
-    module _ (lt : i < length s) (r : Bool) (q : r ≡ isDigit (getD s i 0)) where
-      pub sum-stop : r ≡ false → record { value = v; large = l; left = length s - i } ≡ digitsAfter start s
-      sum-stop e = answer (length s - i) (h .rest ∙ digits-stop s i (h .so-far) lt (sym q ∙ e))
+  further : n + count isDigit (drop 1 s) ≡ length s - 1
+  further = omega (arith, left-is, length-drop (count isDigit (drop 1 s)) (drop 1 s), length-drop 1 s, count-within isDigit (drop 1 s))
 
-      pub sum-more : (a : Sum) → a ≡ pushed v (getD s i 0) → r ≡ true → Summed start s (i + 1) (a .value) (a .large)
-      unfolding pushed
-      sum-more a p e =
-          let c = getD s i 0 in
-          let w : a ≡ pushed (h .so-far) c = p ∙ ap (λ x. pushed x c) (h .is) ∙ pushed-again (h .so-far) c in
-          record {
-            so-far = h .so-far * 10 + (c - 48);
-            within = omega arith;
-            is = ap (λ x. x .value) w;
-            marked = ap (λ x. x .large) w;
-            rest = h .rest ∙ digits-step s i (h .so-far) lt (sym q ∙ e);
-          }
+  -- no digit follows
+  pub long-last : (a : Sum) → a ≡ pushed start (getD s 0 0) → n ≡ length s - 1 → record { value = a .value; large = a .large; left = n } ≡ digitsAfter start s
+  unfolding pushed digitsAfter valueFrom
+  long-last a p k =
+      let z : count isDigit (drop 1 s) ≡ 0 = omega (arith, further) in
+      number-eq _ _ _ _ _ _ (ap (λ x. x .value) p) (ap (λ x. x .large) p) (k ∙ sym (length-drop 1 s)) ∙ sym (digits-step s 0 start h e ∙ rw z)
 
-pub ruleset sums = (sum-none, sum-end, sum-stop, sum-more)
+  -- one at least follows: too large
+  pub long-more : (n ≡ length s - 1 → ⊥) → 1844674407370955161 ≤ start → record { value = 18446744073709551615; large = true; left = n } ≡ digitsAfter start s
+  unfolding digitsAfter
+  long-more k g =
+      let v = start * 10 + (getD s 0 0 - 48) in
+      let t = drop 1 s in
+      let w = take (count isDigit t) t in
+      let z : length w ≡ 0 → ⊥ = λ m. k (omega (arith, further, length-take-le (count isDigit t) t (count-within isDigit t))) in
+      let l : largest < valueFrom v w = omega (arith, value-tenfold v w z) in
+      number-eq _ _ _ _ _ _ (sym (large-is (valueFrom v w) l)) (sym (large-marked (valueFrom v w) l)) left-is ∙ sym (digits-step s 0 start h e)
 
--- ---- a sum that still fits
+pub ruleset longs = (long-last, long-more)
 
-fits-far : (t : ℕ) → false ≡ tooLarge t → t ≤ largest
-fits-far t e = elim (decLe t largest) [ yes h ↦ h | no h ↦ let z : false ≡ true = e ∙ large-marked t (omega arith) in let y : _≡_ {A = ℕ} 0 1 = cc in absurd (omega arith) ]
+-- ---- read_digits
 
 digit-small : (c : ℕ) → isDigit c ≡ true → c - 48 ≤ 9
 unfolding isDigit
 digit-small c e = let h = leb-true c 57 (both (leb 48 c) (leb c 57) e .1) in omega arith
 
-module _ (s : List ℕ) where
-  pub sum-zero : Summed 0 s 0 0 false
-  sum-zero = sum-none 0 s (record { fits = lit< tt })
+-- the value start and the digits before the place i make this value, which fits
+pub record Summed (start : ℕ) (s : List ℕ) (i value : ℕ) : Type 0 where
+  pub within : i ≤ length s
+  pub small : value ≤ largest
+  pub rest : digitsAfter start s ≡ digitsAfter value (drop i s)
 
-  module _ (i v : ℕ) (h : Summed 0 s i v false) where
-    so-far-is : v ≡ h .so-far
-    so-far-is = h .is ∙ fits-is (h .so-far) (fits-far (h .so-far) (h .marked))
+module _ (start : ℕ) (s : List ℕ) where
+  pub sum-none : Fits w64 start → Summed start s 0 start
+  sum-none f = record { within = omega arith; small = let l = f .fits in omega arith; rest = refl }
 
-    pub sum-long : (r : Number) → r ≡ digitsAfter v (take (length s - i) (drop i s)) → r ≡ digitsAfter 0 s
-    sum-long r e = rw (rest-in s i) at e ∙ ap (λ x. digitsAfter x (drop i s)) so-far-is ∙ sym (h .rest)
+  module _ (i v : ℕ) (h : Summed start s i v) where
+    answer : (n : ℕ) → digitsAfter start s ≡ numberFrom v n → record { value = v; large = false; left = n } ≡ digitsAfter start s
+    answer n e = number-eq _ _ _ _ _ _ (sym (fits-is v (h .small))) (sym (fits-not v (h .small))) refl ∙ sym e
 
-    module _ (lt : i < length s) (r : Bool) (q : r ≡ isDigit (getD s i 0)) (e : r ≡ true) (small : v < 1844674407370955161) (d : ℕ) (p : d ≡ getD s i 0 - 48) where
-      pub sum-room : v * 10 + d < 18446744073709551616
-      sum-room = omega (arith, digit-small (getD s i 0) (sym q ∙ e))
+    pub sum-end : i ≡ length s → record { value = v; large = false; left = 0 } ≡ digitsAfter start s
+    sum-end e = answer 0 (h .rest ∙ digits-end s i v (omega arith))
 
-      pub sum-small : Summed 0 s (i + 1) (v * 10 + d) false
-      sum-small =
-          let k : v * 10 + d ≤ largest = omega (arith, sum-room) in
-          let t = h .so-far * 10 + (getD s i 0 - 48) in
-          let w : v * 10 + d ≡ t = ap₂ (λ x y. x * 10 + y) so-far-is p in
-          let l : t ≤ largest = rw (← w) k in
-          record {
-            so-far = t;
-            within = omega arith;
-            is = w ∙ sym (fits-is t l);
-            marked = sym (fits-not t l);
-            rest = h .rest ∙ digits-step s i (h .so-far) lt (sym q ∙ e);
+    module _ (ne : i ≡ length s → ⊥) (r : Bool) (q : r ≡ isDigit (getD s i 0)) where
+      before-end : i < length s
+      before-end = let w = h .within in omega arith
+
+      pub sum-stop : not r ≡ true → record { value = v; large = false; left = length s - i } ≡ digitsAfter start s
+      sum-stop u = answer (length s - i) (h .rest ∙ digits-stop s i v before-end (sym q ∙ not-true r u))
+
+      module _ (u : not r ≡ false) where
+        digit-here : isDigit (getD s i 0) ≡ true
+        digit-here = sym q ∙ not-false r u
+
+        -- what read_long asks
+        pub long-some : 1 ≤ length (take (length s - i) (drop i s))
+        long-some = rw (rest-in s i, length-drop i s) (omega (arith, before-end))
+
+        pub long-digit : isDigit (getD (take (length s - i) (drop i s)) 0 0) ≡ true
+        long-digit = rw (rest-in s i, drop-cons s i 0 before-end) digit-here
+
+        pub sum-long : (n : Number) → n ≡ digitsAfter v (take (length s - i) (drop i s)) → n ≡ digitsAfter start s
+        sum-long n p = rw (rest-in s i) at p ∙ sym (h .rest)
+
+        module _ (g : v < 1844674407370955161) (d : ℕ) (p : d ≡ getD s i 0 - 48) where
+          pub sum-room : v * 10 + d < 18446744073709551616
+          sum-room = omega (arith, digit-small (getD s i 0) digit-here)
+
+          pub sum-more : Summed start s (i + 1) (v * 10 + d)
+          sum-more = record {
+            within = omega (arith, before-end);
+            small = omega (arith, sum-room);
+            rest = rw p (h .rest ∙ digits-step s i v before-end digit-here);
           }
 
-pub ruleset small-sums = (sum-zero, sum-end, sum-stop, sum-long, sum-room, sum-small)
+pub ruleset sums = (sum-none, sum-end, sum-stop, long-some, long-digit, sum-long, sum-room, sum-more)
 
 -- ---- read_number, skip_number
 
@@ -205,9 +217,18 @@ unfolding numberOf readNumber literal choose value valueFrom
 number-zero [] h z = absurd (h refl)
 number-zero (c ∷ s) h z = rw (eq-eqb c 48 z) (number-eq _ _ _ _ _ _ refl refl (omega arith))
 
-pub number-digits : (s : List ℕ) → (length s ≡ 0 → ⊥) → (getD s 0 0 ≡ 48 → ⊥) → (r : Number) → r ≡ digitsAfter 0 s → r ≡ numberOf s (readNumber s)
-number-digits [] h z r e = absurd (h refl)
-number-digits (c ∷ s) h z r e = e ∙ digits-are c s z
+number-digits : (s : List ℕ) → (length s ≡ 0 → ⊥) → (getD s 0 0 ≡ 48 → ⊥) → digitsAfter 0 s ≡ numberOf s (readNumber s)
+number-digits [] h z = absurd (h refl)
+number-digits (c ∷ s) h z = digits-are c s z
+
+module _ (s : List ℕ) (h : length s ≡ 0 → ⊥) (z : getD s 0 0 ≡ 48 → ⊥) (r : Bool) (q : r ≡ isDigit (getD s 0 0)) where
+  pub number-none : not r ≡ true → record { value = 0; large = false; left = length s } ≡ numberOf s (readNumber s)
+  number-none u = ap (numberFrom 0) (omega arith) ∙ sym (digits-stop s 0 0 (omega arith) (sym q ∙ not-true r u)) ∙ number-digits s h z
+
+  pub number-some : not r ≡ false → (d : ℕ) → d ≡ getD s 0 0 - 48 → (n : Number) → n ≡ digitsAfter d (take (length s - 1) (drop 1 s)) → n ≡ numberOf s (readNumber s)
+  number-some u d p n k =
+      let w : d ≡ 0 * 10 + (getD s 0 0 - 48) = omega arith in
+      rw (rest-in s 1, w) at k ∙ sym (digits-step s 0 0 (omega arith) (sym q ∙ not-false r u)) ∙ number-digits s h z
 
 -- the code's number says what is left
 pub number-left : (s : List ℕ) (g : Result (List ℕ)) → numberOf s g .left ≡ leftOf s g
@@ -218,7 +239,7 @@ number-left s (ok w r) = refl
 pub number-within : (s : List ℕ) (r : Number) → r ≡ numberOf s (readNumber s) → r .left ≤ length s
 number-within s r e = rw (e, number-left s (readNumber s)) (left-within (number-behind s))
 
-pub ruleset numbers = (number-empty, number-zero, number-digits, number-within)
+pub ruleset numbers = (number-empty, number-zero, number-none, number-some, number-within)
 
 -- only what is left
 pub skip-empty : (s : List ℕ) → length s ≡ 0 → 0 ≡ leftOf s (readNumber s)
@@ -229,7 +250,7 @@ skip-zero s h z = ap (λ r. r .left) (number-zero s h z) ∙ number-left s (read
 
 pub skip-some : (s : List ℕ) → (length s ≡ 0 → ⊥) → (getD s 0 0 ≡ 48 → ⊥) → (n : ℕ) → n ≡ length (rest isDigit s) → n ≡ leftOf s (readNumber s)
 unfolding digitsAfter
-skip-some s h z n e = e ∙ ap (λ r. r .left) (number-digits s h z (digitsAfter 0 s) refl) ∙ number-left s (readNumber s)
+skip-some s h z n e = e ∙ ap (λ r. r .left) (number-digits s h z) ∙ number-left s (readNumber s)
 
 pub skip-within : (s : List ℕ) (n : ℕ) → n ≡ leftOf s (readNumber s) → n ≤ length s
 skip-within s n e = rw e (left-within (number-behind s))

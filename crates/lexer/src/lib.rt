@@ -2,7 +2,8 @@
 // place on, and answers how many bytes are left behind what it read: all of them where it read nothing.
 ghost use mathlib.Core.Path.{_≡_};
 ghost use Prim.Native.Nat.{_+_, _-_, _≤_};
-ghost use lib.ListN.{length};
+ghost use mathlib.Core.Bool.{true};
+ghost use lib.ListN.{length, getD};
 ghost use Rattle.rules.specs.Bytes.{isSpace, isDigit, isLetter, isWord, isWild, isSign, within};
 ghost use Rattle.rules.specs.Parse.{all, skip, leftOf, readNumber, readIdentifier, readDotIdentifier, readIdentifiers, readQualifier};
 ghost use Rattle.lexer.specs.Views.{rest, startsWith, pushed, digitsAfter, numberOf, identifierOf, identifiersOf};
@@ -156,61 +157,57 @@ fn push(value: u64, b: u8) -> Sum
     }
 }
 
-// The digits of a number whose value so far leaves room for one more at the most.
+// The digits that s begins with, behind digits of the value start, which leaves room for one more at the most: with two the number is too
+// large.
 fn read_long(s: &[u8], start: u64) -> Number
+    requires { ⌜ 1 ≤ length (now s) ⌝ }
+    requires { ⌜ isDigit (getD (now s) 0 0) ≡ true ⌝ }
+    requires { ⌜ 1844674407370955161 ≤ start ⌝ }
     ensures { λ r. ⌜ r ≡ digitsAfter start (now (s .entry)) ⌝ }
 {
-    let mut value = start;
-    let mut large = false;
-    let mut i = 0;
-    while i < s.len() {
-        let b = s[i];
-        if is_digit(b) {
-            let a = push(value, b);
-            value = a.value;
-            large = a.large;
-            i += 1;
-        } else {
-            return Number {
-                value,
-                large,
-                left: s.len() - i,
-            };
-        }
+    let a = push(start, s[0]);
+    let n = skip_digits(&s[1..]);
+    if n == s.len() - 1 {
+        return Number {
+            value: a.value,
+            large: a.large,
+            left: n,
+        };
     }
     Number {
-        value,
-        large,
-        left: 0,
+        value: 18446744073709551615,
+        large: true,
+        left: n,
     }
 }
 
-// The digits that s begins with, as a number.
-fn read_digits(s: &[u8]) -> Number
-    ensures { λ r. ⌜ r ≡ digitsAfter 0 (now (s .entry)) ⌝ }
+// The digits that s begins with, behind digits of the value start.
+fn read_digits(s: &[u8], start: u64) -> Number
+    ensures { λ r. ⌜ r ≡ digitsAfter start (now (s .entry)) ⌝ }
 {
-    let mut value = 0;
+    let mut value = start;
     let mut i = 0;
-    while i < s.len() {
+    loop {
+        if i == s.len() {
+            return Number {
+                value,
+                large: false,
+                left: 0,
+            };
+        }
         let b = s[i];
-        if is_digit(b) {
-            if 1844674407370955161 <= value {
-                return read_long(&s[i..], value);
-            }
-            value = value * 10 + digit(b);
-            i += 1;
-        } else {
+        if !is_digit(b) {
             return Number {
                 value,
                 large: false,
                 left: s.len() - i,
             };
         }
-    }
-    Number {
-        value,
-        large: false,
-        left: 0,
+        if 1844674407370955161 <= value {
+            return read_long(&s[i..], value);
+        }
+        value = value * 10 + digit(b);
+        i += 1;
     }
 }
 
@@ -233,7 +230,14 @@ pub fn read_number(s: &[u8]) -> Number
             left: s.len() - 1,
         };
     }
-    read_digits(s)
+    if !is_digit(first) {
+        return Number {
+            value: 0,
+            large: false,
+            left: s.len(),
+        };
+    }
+    read_digits(&s[1..], digit(first))
 }
 
 // A number that is not read: how many bytes are left behind it.

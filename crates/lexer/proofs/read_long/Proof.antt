@@ -1,29 +1,18 @@
-use Rattle.lexer.proofs.Numbers.{Summed, sums}
-use lib.ListN.{length}
-use Prim.Native.Nat.{_-_}
+use Rattle.lexer.proofs.Numbers.{longs}
 use borrow.Author.Needs.{needs}
 use Rattle.lexer.proofs.read_long.Statement.{statement}
 use Rattle.lexer.proofs.read_long.Tie as tie
-
-abbrev Inv-loop : tie.InvT-loop
-Inv-loop s start value₀ large₀ i₀ value large i = Summed start s i value large
-
-abbrev μ-loop : tie.MeasureT-loop
-μ-loop s start value₀ large₀ i₀ value large i = length s - i
 
 pub read-long-spec : {M : Type 1} → statement M
 read-long-spec =
     tie.close
     (tie.spec
-    Inv-loop
-    μ-loop
-    (λ c. search (sums, needs))
-    (λ c. search (sums, needs))
-    (λ c κs. search (sums, needs))
-    (λ c κs. search (sums, needs))
-    (λ c. search (sums, needs))
-    (λ c. search (sums, needs))
-    (λ c. search (sums, needs))
-    (λ c. search (sums, needs))
-    (λ c. search (sums, needs))
-    (λ c. search (sums, needs)))
+    (λ c. search (longs, needs))
+    (λ c κs. search (longs, needs))
+    (λ c. search (longs, needs))
+    (λ c. search (longs, needs))
+    (λ c. search (longs, needs))
+    (λ c κs. search (longs, needs))
+    (λ c. search (longs, needs))
+    (λ c. search (longs, needs))
+    (λ c. search (longs, needs)))
