@@ -4,7 +4,7 @@ use Prim.Native.Nat.{ℕ, _-_, _≤_}
 use mathlib.Core.Path.{_≡_, refl, sym, ap, _∙_}
 use mathlib.Core.List.{List, [], _∷_}
 use mathlib.Core.Bool.{true, false}
-use mathlib.Core.Option.{Option, none, some}
+use mathlib.Core.Option.{Option, some}
 use native.Mathlib.Omega.{arith}
 use lib.ListN.{length, drop, length-drop}
 use Rattle.rules.specs.Parse.{Result, fail, ok, listOf}
@@ -15,7 +15,7 @@ use Rattle.rules.specs.Walk as W
 use Rattle.rules.specs.Walk.{WalksExtents, goesOn, opening, push, mapOption, beginAt, endAt, extentAt}
 use Rattle.rules.proofs.Left.{rest-in}
 use Rattle.rules.proofs.ExtentLaws.{found, text-extents}
-use Rattle.rules.proofs.ExtentSteps.{ExtentsOn, extents-on, AsMany, extents-count, end-most, begin-most, rest-most}
+use Rattle.rules.proofs.ExtentSteps.{ExtentsOn, extents-on, extents-count, end-most, begin-most, rest-most}
 use Rattle.partial.proofs.Unread.{Rest}
 use Rattle.walk.specs.Views.{stageOf, stepOf, stepAt, endOf, itemText, isItem, partialText}
 use Rattle.walk.specs.declared.Stage.{Stage}

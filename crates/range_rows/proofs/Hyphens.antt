@@ -19,7 +19,7 @@ use Rattle.walk.specs.declared.Stage.{Stage}
 use Rattle.walk.specs.declared.Step.{Step}
 use Rattle.walk.proofs.Ends.{isSide}
 use Rattle.rows.specs.Put.{Put}
-use Rattle.rows.proofs.Puts.{put-then, put-same, Begins}
+use Rattle.rows.proofs.Puts.{put-then, put-same}
 use Rattle.passes.specs.Views.{Raisable, Signed}
 use Rattle.passes.proofs.Extending.{Item, left-item, right-item}
 use Rattle.step_rows.specs.Views.{stepComparatorWords, stepIdentifierWords}

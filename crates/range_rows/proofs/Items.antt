@@ -25,7 +25,7 @@ use Rattle.passes.proofs.Turn.{ahead}
 use Rattle.passes.proofs.Passing.{passes-fewer}
 use Rattle.passes.proofs.Extending.{Item, own-item}
 use Rattle.step_rows.specs.Views.{stepComparatorWords, stepIdentifierWords}
-use Rattle.range_rows.specs.Views.{isListed, itemWords, ItemFits, item-fits, Behind, first, rangeWords, rangeNames, Beginning, AtRange, Standing, Splits, Going, InRange, in-range, BehindRange, behind-range}
+use Rattle.range_rows.specs.Views.{isListed, itemWords, ItemFits, item-fits, Behind, first, rangeWords, rangeNames, Beginning, AtRange, Standing, Splits, InRange, in-range, BehindRange, behind-range}
 use Rattle.range_rows.proofs.Hyphens.{behind-it}
 use Rattle.range_rows.proofs.Stages.{listed-plain, listed-item, listed-goes}
 use Rattle.range_rows.proofs.Stands.{no-pieces, range-ends, Taken, firstExtent, taken-first, nextExtent, taken-next, rows-step, names-step, splits-of, beginning, range-room, range-space}

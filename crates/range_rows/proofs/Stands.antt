@@ -2,7 +2,7 @@
 -- Assumes nothing.
 use Prim.Native.Nat.{ℕ, zero, suc, _+_, _-_, _≤_}
 use mathlib.Core.Path.{_≡_, refl, sym, ap, ap₂, _∙_}
-use mathlib.Core.Bool.{Bool, true, false}
+use mathlib.Core.Bool.{true, false}
 use mathlib.Core.Option.{Option, none, some}
 use mathlib.Core.List.{List, [], _∷_, _++_, map}
 use native.Mathlib.Omega.{arith}
@@ -13,24 +13,22 @@ use Rattle.rules.specs.Syntax.{identifiersOf}
 use Rattle.rules.specs.Parse.{listOf}
 use Rattle.rules.specs.Expansion as E
 use Rattle.rules.specs.Expansion.{Piece, partialIn, comparators}
-use Rattle.rules.specs.Extents.{Extent, extent, textExtents}
+use Rattle.rules.specs.Extents.{Extent, textExtents}
 use Rattle.rules.specs.Rows.{pieceRows, rangeRows, textPieces}
 use Rattle.rules.specs.Walk as W
 use Rattle.rules.specs.Walk.{Walks, WalksExtents, goesOn, opening, push, mapOption, beginAt, extentAt, pieceIdentifierWords}
 use Rattle.partial.proofs.Unread.{Rest}
 use Rattle.walk.specs.Views.{stageOf, stepAt}
 use Rattle.walk.specs.declared.Stage.{Stage}
-use Rattle.walk.specs.declared.Stage.the-variants as Stages
 use Rattle.walk.specs.declared.Step.{Step}
 use Rattle.walk.proofs.Ends.{isSide}
-use Rattle.rows.specs.Put.{Put}
 use Rattle.rows.proofs.Puts.{Begins, begins-length}
 use Rattle.passes.specs.Views.{stepGives, stepIdentifiers, Raisable, Signed}
-use Rattle.passes.proofs.Passing.{Passing, Passes, passes}
-use Rattle.passes.proofs.Extending.{Extending, Extended, extended, Item, item-begins}
+use Rattle.passes.proofs.Passing.{Passes, passes}
+use Rattle.passes.proofs.Extending.{Extended, extended, Item, item-begins}
 use Rattle.step_rows.specs.Views.{stepComparatorWords, stepIdentifierWords}
 use Rattle.step_rows.proofs.Words.{step-words, step-names}
-use Rattle.range_rows.specs.Views.{isListed, first, later, rangeWords, rangeNames, Beginning, AtRange, at-range, Standing, Splits, Ending, BehindRange, behind-range}
+use Rattle.range_rows.specs.Views.{isListed, first, later, rangeWords, rangeNames, Beginning, AtRange, at-range, Standing, Splits, Ending}
 
 -- ---- lists of lists
 

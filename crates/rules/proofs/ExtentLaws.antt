@@ -1,7 +1,7 @@
 -- The extents of the walk's steps are those of the text's items (02, N2): at each stage, what the steps from there on have is what the readers
 -- of extents read from there on.
 -- Assumes nothing.
-use mathlib.Core.Path.{_≡_, refl, sym, ap, _∙_}
+use mathlib.Core.Path.{_≡_, refl, sym, _∙_}
 use Prim.Native.Nat.{ℕ, zero, suc, _-_, _<_}
 use native.Mathlib.Omega.{arith}
 use mathlib.Core.Bool.{Bool, true, false}
@@ -10,11 +10,11 @@ use mathlib.Core.List.{List, [], _∷_}
 use lib.ListN.{length}
 use Rattle.rules.specs.Syntax as S
 use Rattle.rules.specs.Syntax.{Partial, xRangeOnly, majorOnly, majorMinor, majorMinorPatch, Prefix, bare, tilde, caret, op, Item}
-use Rattle.rules.specs.Parse.{Result, fail, ok, _then_, choose, all, literal, skip, spaces₁, readPartial, readPrefix, readItem, readGap, readNext, readDash, readSeparator, atEnd}
+use Rattle.rules.specs.Parse.{Result, fail, ok, _then_, choose, all, literal, skip, spaces₁, readPartial, readItem, readGap, readNext, readDash, readSeparator, atEnd}
 use Rattle.rules.specs.Expansion.{Compat, Piece, everything, expandRight}
 use Rattle.rules.specs.Extents.{Extent, extent, upTo, nextExtent, itemsExtents, afterExtents, rangeExtents, furtherExtents, textExtents}
-use Rattle.rules.specs.Walk.{Stage, item, range, right, only, end, bad, Behind, behind, answer, nowhere, closes, afterRange, follow, Step, step, stuck, stepTo, prefixAt, partialAt, isBare, rightOf, taken, nextItem, nextRight, next, push, mapOption, opening, goesOn, beginAt, endBehind, itemEnd, endAt, extentAt, WalksExtents, ends, fails, goes}
-use Rattle.rules.proofs.Results.{Gives, nothing, gives, gives-map, gives-then, gives-choose}
+use Rattle.rules.specs.Walk.{Stage, item, range, right, only, end, bad, Behind, behind, answer, nowhere, closes, afterRange, follow, Step, step, stuck, stepTo, prefixAt, partialAt, isBare, rightOf, taken, nextItem, nextRight, next, push, mapOption, opening, goesOn, beginAt, endBehind, itemEnd, extentAt, WalksExtents, ends, fails, goes}
+use Rattle.rules.proofs.Results.{Gives, gives, gives-map, gives-then, gives-choose}
 use Rattle.rules.proofs.Left as L
 use Rattle.rules.proofs.Left.{behind-both, behind-none, partial-behind, many-behind}
 use Rattle.rules.proofs.LeftItems.{item-behind, gap-behind, dash-behind, separator-behind}

@@ -1,18 +1,18 @@
 -- The extents along the walk (02, N2): one step of them, as many as pieces, and that an item ends within the text behind its begin.
 -- Assumes nothing.
 use mathlib.Core.Path.{_≡_, refl, sym, ap, _∙_}
-use Prim.Native.Nat.{ℕ, suc, _+_, _-_, _≤_}
+use Prim.Native.Nat.{ℕ, suc, _-_, _≤_}
 use native.Mathlib.Omega.{arith}
 use mathlib.Core.Bool.{Bool, true, false, _&&_}
 use mathlib.Core.Option.{Option, none, some}
 use mathlib.Core.List.{List, [], _∷_, map}
 use lib.ListN.{length}
-use Rattle.rules.specs.Syntax.{Partial, Prefix}
+use Rattle.rules.specs.Syntax.{Partial}
 use Rattle.rules.specs.Parse.{Result, fail, ok, skip, readPartial}
 use Rattle.rules.specs.Expansion.{Compat, Piece}
 use Rattle.rules.specs.Extents.{Extent}
 use Rattle.rules.specs.Walk as W
-use Rattle.rules.specs.Walk.{Stage, item, range, right, only, end, bad, behind, answer, follow, Step, step, prefixAt, partialAt, isBare, next, push, mapOption, opening, goesOn, beginAt, endBehind, itemEnd, endAt, extentAt, Walks, WalksExtents, ends, fails, goes}
+use Rattle.rules.specs.Walk.{Stage, item, range, right, only, end, bad, behind, answer, follow, step, prefixAt, partialAt, isBare, next, push, mapOption, opening, goesOn, beginAt, endBehind, itemEnd, endAt, extentAt, Walks, WalksExtents, ends, fails, goes}
 use Rattle.rules.proofs.Results.{Gives, gives}
 use Rattle.rules.proofs.Left.{Behind, behind-left, partial-behind}
 use Rattle.rules.proofs.LeftItems.{skip-behind}

@@ -3,8 +3,8 @@
 use Prim.Native.Nat.{ℕ, _-_}
 use mathlib.Core.List.{List, [], _∷_}
 use lib.ListN.{length}
-use Rattle.rules.specs.Syntax.{Prefix, bare, tilde, caret, op, Item, item}
-use Rattle.rules.specs.Parse.{Result, fail, ok, _then_, choose, all, skip, readPartial, readItem, readGap, readDash, readSeparator, atEnd}
+use Rattle.rules.specs.Syntax.{bare, tilde, caret, op, Item, item}
+use Rattle.rules.specs.Parse.{Result, ok, _then_, choose, all, skip, readPartial, readItem, readGap, readDash, readSeparator, atEnd}
 
 -- how many bytes of the text are left where the item begins, and its length
 pub data Extent : Type 0 where

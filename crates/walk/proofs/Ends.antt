@@ -1,8 +1,7 @@
 -- Where the item of a step ends (02, N2), by what the code holds of the step and of the one behind it.
 -- Assumes nothing.
 use Prim.Native.Nat.{ℕ}
-use native.Mathlib.Omega.{arith}
-use mathlib.Core.Path.{_≡_, refl, _∙_, sym, ap}
+use mathlib.Core.Path.{_≡_, refl, sym}
 use mathlib.Core.Bool.{Bool, true, false, _&&_}
 use mathlib.Core.List.{List, [], _∷_}
 use lib.ListN.{length}
@@ -10,7 +9,7 @@ use Rattle.rules.specs.Syntax as S
 use Rattle.rules.specs.Parse.{Result, fail, ok, literal, skip, readPartial}
 use Rattle.rules.specs.Expansion as E
 use Rattle.rules.specs.Walk as W
-use Rattle.walk.specs.Views.{itemText, partialText, endOf}
+use Rattle.walk.specs.Views.{partialText, endOf}
 
 -- a hyphen's right side stands here
 abbrev pub isSide : W.Stage → Bool
