@@ -1,0 +1,124 @@
+// The program `origins`: which words of a range each of its comparators came from. Its arguments are the mode and the range. It writes a line for
+// each comparator, as `<2.0.0 from ^1.2.3`; or one line, where the range is refused.
+use normal_text::NormalText;
+use normal_text::normal_text;
+use range::Compat;
+use rangeset::identifier_bytes;
+use rangeset::read;
+use rows::COMPARATOR_WORDS;
+use streams::same_word;
+
+// How many bytes are enough for the normal text of every range, and how many words for its comparators and its identifiers.
+const BYTES: usize = 524288;
+
+const WORDS: usize = COMPARATOR_WORDS * 65536;
+
+const IDS: usize = 98304;
+
+// ---- the lines
+
+fn put(text: &[u8]) -> bool {
+    streams::print(b"origins", text)
+}
+
+// The item of an empty range has no bytes.
+fn put_line(comparator: &[u8], item: &[u8]) -> bool {
+    if item.len() == 0 {
+        return put(comparator) && put(b" from an empty range\n");
+    }
+    put(comparator) && put(b" from ") && put(item) && put(b"\n")
+}
+
+// In the normal text the comparators stand in the order of their rows, with blanks between, and `||` between ranges. Words seven and eight of a
+// row are its item's place and length.
+fn put_lines(range: &[u8], normal: &[u8], words: &[u64]) {
+    let mut at = 0;
+    let mut row = 0;
+    while at < normal.len() {
+        let end = bytes::scan::find(normal, at, normal.len(), b' ');
+        if normal[at] != b'|' {
+            if words.len() - row < COMPARATOR_WORDS {
+                return;
+            }
+            let item = identifier_bytes(range, words[row + 6] as usize, words[row + 7] as usize);
+            if !put_line(&normal[at..end], item) {
+                return;
+            }
+            row += COMPARATOR_WORDS;
+        }
+        if end == normal.len() {
+            return;
+        }
+        at = end + 1;
+    }
+}
+
+fn put_refusal(number: u64) -> bool {
+    let mut digits = [0u8; 20];
+    let n = io::decimal(number, &mut digits);
+    put(b"refused ") && put(&digits[..n]) && put(b"\n")
+}
+
+// ---- the answer
+
+fn answer(
+    compat: Compat,
+    range: &[u8],
+    normal: &mut [u8; BYTES],
+    words: &mut [u64; WORDS],
+    ids: &mut [u64; IDS],
+) {
+    read(range, compat, words, ids);
+    let r = normal_text(range, compat, normal);
+    match r {
+        NormalText::Written(len) => put_lines(range, &normal[..len], words),
+        NormalText::Refused(refusal) => {
+            put_refusal(refusal.number());
+        }
+    }
+}
+
+fn run(compat: Compat, range: &[u8]) {
+    answer(
+        compat,
+        range,
+        &mut [0u8; BYTES],
+        &mut [0u64; WORDS],
+        &mut [0u64; IDS],
+    );
+}
+
+// ---- the arguments
+
+// A range that is over 65,536 bytes is refused by its first 65,536, as every text of so many.
+fn run_mode(compat: Compat) {
+    let mut range = io::large_buffer();
+    let n = os::arg(2, &mut range);
+    if os::errno() == libc::ENAMETOOLONG {
+        run(compat, &range);
+        return;
+    }
+    run(compat, &range[..n]);
+}
+
+fn usage() {
+    streams::put_usage(b"origins", b"origins cargo|npm RANGE\n");
+}
+
+fn main() {
+    let mut mode = [0u8; 8];
+    let n = os::arg(1, &mut mode);
+    if os::arg_count() != 3 {
+        usage();
+        return;
+    }
+    if same_word(&mode[..n], b"cargo") {
+        run_mode(Compat::Cargo);
+        return;
+    }
+    if same_word(&mode[..n], b"npm") {
+        run_mode(Compat::Npm);
+        return;
+    }
+    usage();
+}
