@@ -10,7 +10,7 @@ use lib.Dec.{leb}
 use lib.ListN.{length, take, drop}
 use Rattle.rules.specs.Bytes.{pick}
 use Rattle.rules.specs.Expansion as E
-use Rattle.rules.specs.Answers.{Answer, refused, orRefused, readingOutcome, written, comparatorWordsAfter, identifierWordsAfter, identifierBytes, normalTextOutcome, bytesAfter, Outcome, Length}
+use Rattle.rules.specs.Answers.{Answer, refused, orRefused, readingOutcome, written, identifierWordsAfter, identifierBytes, normalTextOutcome, bytesAfter, Outcome, Length}
 use Rattle.rules.specs.Exported.{under, afterMode, wordsUnder, Verdict, verdict, partAt}
 use Rattle.range.specs.Views.{compatOf, modeIs}
 use Rattle.range.specs.declared.Compat.{Compat}
@@ -37,10 +37,9 @@ module _ (k : ℕ) (m : Mode) (e : modeIs m ≡ E.modeFrom k) where
         → (x : Outcome) → x ≡ outcomeOf r → x ≡ readingOutcome (under k f)
     mode-counts f r h x p = p ∙ h ∙ ap readingOutcome (under-this f)
 
-    pub mode-words : (f : E.Compat → Answer E.Reading) (s w x : List ℕ) → x ≡ comparatorWordsAfter (compatOf c) s (f (compatOf c)) w
-        → x ≡ wordsUnder k (λ m. comparatorWordsAfter m s (f m) w) w
+    pub mode-words : (f : E.Compat → List ℕ) (w x : List ℕ) → x ≡ f (compatOf c) → x ≡ wordsUnder k f w
     unfolding wordsUnder
-    mode-words f s w x p = p ∙ ap (λ o. afterMode (orRefused 255 o) (λ m. comparatorWordsAfter m s (f m) w) w) (sym (ap modeIs q) ∙ e)
+    mode-words f w x p = p ∙ ap (λ o. afterMode (orRefused 255 o) f w) (sym (ap modeIs q) ∙ e)
 
     pub mode-ids : (f : E.Compat → Answer E.Reading) (s i x : List ℕ) → x ≡ identifierWordsAfter s (f (compatOf c)) i → x ≡ identifierWordsAfter s (under k f) i
     mode-ids f s i x p = p ∙ ap (λ a. identifierWordsAfter s a i) (under-this f)
