@@ -1,5 +1,7 @@
 // The program `origins`: which words of a range each of its comparators came from. Its arguments are the mode and the range. It writes a line for
 // each comparator, as `<2.0.0 from ^1.2.3`; or one line, where the range is refused.
+ghost use Prim.Native.Nat.{_≤_};
+ghost use lib.ListN.{length};
 use normal_text::NormalText;
 use normal_text::normal_text;
 use range::Compat;
@@ -29,27 +31,34 @@ fn put_line(comparator: &[u8], item: &[u8]) -> bool {
     put(comparator) && put(b" from ") && put(item) && put(b"\n")
 }
 
-// In the normal text the comparators stand in the order of their rows, with blanks between, and `||` between ranges. Words seven and eight of a
-// row are its item's place and length.
+// Where the next comparator of a normal text begins: behind a blank, or behind ` || `. Where none follows, the end.
+fn next_comparator(normal: &[u8], end: usize) -> usize
+    requires { ⌜ end ≤ length (now normal) ⌝ }
+{
+    if normal.len() - end < 4 {
+        return normal.len();
+    }
+    if normal[end + 1] == b'|' {
+        return end + 4;
+    }
+    end + 1
+}
+
+// The comparators of the normal text stand in the order of their rows, of which words seven and eight are the item's place and length.
 fn put_lines(range: &[u8], normal: &[u8], words: &[u64]) {
     let mut at = 0;
     let mut row = 0;
     while at < normal.len() {
-        let end = bytes::scan::find(normal, at, normal.len(), b' ');
-        if normal[at] != b'|' {
-            if words.len() - row < COMPARATOR_WORDS {
-                return;
-            }
-            let item = identifier_bytes(range, words[row + 6] as usize, words[row + 7] as usize);
-            if !put_line(&normal[at..end], item) {
-                return;
-            }
-            row += COMPARATOR_WORDS;
-        }
-        if end == normal.len() {
+        if words.len() - row < COMPARATOR_WORDS {
             return;
         }
-        at = end + 1;
+        let end = bytes::scan::find(normal, at, normal.len(), b' ');
+        let item = identifier_bytes(range, words[row + 6] as usize, words[row + 7] as usize);
+        if !put_line(&normal[at..end], item) {
+            return;
+        }
+        row += COMPARATOR_WORDS;
+        at = next_comparator(normal, end);
     }
 }
 
@@ -61,13 +70,7 @@ fn put_refusal(number: u64) -> bool {
 
 // ---- the answer
 
-fn answer(
-    compat: Compat,
-    range: &[u8],
-    normal: &mut [u8; BYTES],
-    words: &mut [u64; WORDS],
-    ids: &mut [u64; IDS],
-) {
+fn answer(compat: Compat, range: &[u8], normal: &mut [u8], words: &mut [u64], ids: &mut [u64]) {
     read(range, compat, words, ids);
     let r = normal_text(range, compat, normal);
     match r {
@@ -78,8 +81,18 @@ fn answer(
     }
 }
 
+fn answer_in(
+    compat: Compat,
+    range: &[u8],
+    normal: &mut [u8; BYTES],
+    words: &mut [u64; WORDS],
+    ids: &mut [u64; IDS],
+) {
+    answer(compat, range, normal, words, ids);
+}
+
 fn run(compat: Compat, range: &[u8]) {
-    answer(
+    answer_in(
         compat,
         range,
         &mut [0u8; BYTES],
