@@ -23,7 +23,7 @@ use Rattle.rows.proofs.Puts.{put-then, put-same}
 use Rattle.passes.specs.Views.{Raisable, Signed}
 use Rattle.passes.proofs.Extending.{Item, left-item, right-item}
 use Rattle.step_rows.specs.Views.{stepComparatorWords, stepIdentifierWords}
-use Rattle.range_rows.specs.Views.{first, hyphenWords, hyphenNames, HyphenFits, hyphen-fits, Behind, rangeWords, rangeNames, Beginning, AtRange, BehindRange, behind-range}
+use Rattle.range_rows.specs.Views.{first, hyphenWords, hyphenNames, HyphenFits, hyphen-fits, StandsBehind, rangeWords, rangeNames, Beginning, AtRange, BehindRange, behind-range}
 use Rattle.range_rows.proofs.Stages.{Closes, side-closes, side-goes}
 use Rattle.range_rows.proofs.Stands.{no-pieces, range-ends, Taken, firstExtent, taken-first, first-begins, nextExtent, taken-next, rows-step, names-step, beginning, range-room, range-space}
 
@@ -83,7 +83,7 @@ module _ (s : List ℕ) (k : ℕ) (x y : Step) (cw iw : ℕ) where
   pub hyphen-space : HyphenFits s k x y cw iw → length (hyphenNames s x y) ≤ iw
   hyphen-space (hyphen-fits a b c d e f g h) = h
 
-pub behind-it : (x : Step) → Behind x (x .stage) (x .left)
+pub behind-it : (x : Step) → StandsBehind x (x .stage) (x .left)
 behind-it x = record { same-stage = refl; same-left = refl }
 
 pub ruleset hyphens =
@@ -165,7 +165,7 @@ module _ (m : E.Compat) (s : List ℕ) (k : ℕ) (x : Step) (cw iw : ℕ) (a : A
     ends : BehindRange m s k (y .stage) (y .left)
     ends = behind-range (range-ends (right .stands) (closes .closed) (closes .plain))
 
-    pub range-behind : (st : Stage) (n : ℕ) → Behind y st n → BehindRange m s k st n
+    pub range-behind : (st : Stage) (n : ℕ) → StandsBehind y st n → BehindRange m s k st n
     range-behind st n b = rw (b .same-stage, b .same-left) ends
 
 module _ (st : Stage) (v : Bool) (i : v ≡ isSide (stageOf st)) where

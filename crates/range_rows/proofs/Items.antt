@@ -25,7 +25,7 @@ use Rattle.passes.proofs.Turn.{ahead}
 use Rattle.passes.proofs.Passing.{passes-fewer}
 use Rattle.passes.proofs.Extending.{Item, own-item}
 use Rattle.step_rows.specs.Views.{stepComparatorWords, stepIdentifierWords}
-use Rattle.range_rows.specs.Views.{isListed, itemWords, ItemFits, item-fits, Behind, first, rangeWords, rangeNames, Beginning, AtRange, Standing, Splits, InRange, in-range, BehindRange, behind-range}
+use Rattle.range_rows.specs.Views.{isListed, itemWords, ItemFits, item-fits, StandsBehind, first, rangeWords, rangeNames, Beginning, AtRange, Standing, Splits, InRange, in-range, BehindRange, behind-range}
 use Rattle.range_rows.proofs.Hyphens.{behind-it}
 use Rattle.range_rows.proofs.Stages.{listed-plain, listed-item, listed-goes}
 use Rattle.range_rows.proofs.Stands.{no-pieces, range-ends, Taken, firstExtent, taken-first, nextExtent, taken-next, rows-step, names-step, splits-of, beginning, range-room, range-space}
@@ -86,7 +86,7 @@ module _ (m : E.Compat) (s : List ℕ) (k : ℕ) (x : Step) (cw iw : ℕ) (a : A
       (omega (arith, range-room a, begins-length rows)) (omega (arith, range-space a, begins-length names))
 
   pub items-in : (l z : List ℕ) (n : ℕ) → Put l 0 (itemWords s k x) z n → cw ≡ length l → (r w : List ℕ) (j : ℕ) → Put r 0 (stepIdentifierWords s x) w j → iw ≡ length r
-      → (st : Stage) (left : ℕ) → Behind x st left → InRange m s k n j st left (length z) (length w)
+      → (st : Stage) (left : ℕ) → StandsBehind x st left → InRange m s k n j st left (length z) (length w)
   items-in l z n p h r w j q i st left b =
       rw (b .same-stage, b .same-left)
       (in-range

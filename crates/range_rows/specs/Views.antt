@@ -47,7 +47,8 @@ hyphenWords s k x y = stepComparatorWords k (length s - x .begin) (x .begin - y 
 abbrev pub hyphenNames : List ℕ → Step → Step → List ℕ
 hyphenNames s x y = stepIdentifierWords s x ++ stepIdentifierWords s y
 
--- They can be made, and fit so many words. Data, so that the prover's searches do not look into them.
+-- Their places, lengths and numbers can be reckoned, and they fit so many words. Data, as the others below, so that the prover's searches do not look
+-- into them.
 pub data ItemFits (s : List ℕ) (k : ℕ) (x : Step) (words ids : ℕ) : Type 0 where
   item-fits : x .begin ≤ length s → x .end ≤ x .begin → Raisable (x .raised) x → Signed s x → length (itemWords s k x) ≤ words → length (stepIdentifierWords s x) ≤ ids
       → ItemFits s k x words ids
@@ -56,14 +57,14 @@ pub data HyphenFits (s : List ℕ) (k : ℕ) (x y : Step) (words ids : ℕ) : Ty
   hyphen-fits : x .begin ≤ length s → y .end ≤ x .begin → Raisable (x .raised) x → Raisable (y .raised) y → Signed s x → Signed s y
       → length (hyphenWords s k x y) ≤ words → length (hyphenNames s x y) ≤ ids → HyphenFits s k x y words ids
 
--- what stands behind a step
-pub record Behind (x : Step) (stage : Stage) (left : ℕ) : Type 0 where
+-- at this stage, where left bytes are left: behind the step x
+pub record StandsBehind (x : Step) (stage : Stage) (left : ℕ) : Type 0 where
   pub same-stage : stage ≡ x .stage
   pub same-left : left ≡ x .left
 
 -- ---- the rows of a range
 
--- of the range that has begun, and of the further ones
+-- what is to come in the range that has begun, and in the further ones
 abbrev pub first : {A : Type 0} → List (List A) → List A
 first [] = []
 first (a ∷ l) = a
@@ -94,13 +95,13 @@ pub record Beginning (m : Compat) (s : List ℕ) (k : ℕ) (x : Step) : Type 0 w
   pub is : x ≡ stepAt m W.range (Rest s left)
   pub few : k + left ≤ length s
 
--- And its rows fit so many words.
+-- and its rows fit so many words
 pub data AtRange (m : Compat) (s : List ℕ) (k : ℕ) (x : Step) (words ids : ℕ) : Type 0 where
   at-range : Beginning m s k x → length (rangeWords m s k) ≤ words → length (rangeNames m s k) ≤ ids → AtRange m s k x words ids
 
 -- ---- inside a range
 
--- These stand at this stage, where left bytes are left, behind pieces of the range with this number.
+-- At this stage, where left bytes are left, behind one or more pieces of the range with this number: what is to come.
 pub record Standing (m : Compat) (s : List ℕ) (k : ℕ) (stage : Stage) (left : ℕ) : Type 0 where
   pub begin : ℕ
   pub pass : Passing m s stage left
@@ -109,25 +110,25 @@ pub record Standing (m : Compat) (s : List ℕ) (k : ℕ) (stage : Stage) (left 
   pub extents : later (extends .coming) ≡ drop (suc k) (listOf (textExtents s))
   pub few : k + ahead stage left ≤ length s
 
--- all but its first `at` words is rest
+-- behind its first `at` words stands rest
 pub record Splits (all : List ℕ) (at : ℕ) (rest : List ℕ) : Type 0 where
   pub behind : drop at all ≡ rest
   pub size : at + length rest ≡ length all
 
--- its rows up to here take so many words; no right side of a hyphen range stands here
+-- And the rows of those pieces take so many words. No right side of a hyphen range stands here.
 pub record Going (m : Compat) (s : List ℕ) (k at to : ℕ) (stage : Stage) (left : ℕ) : Type 0 where
   pub stands : Standing m s k stage left
   pub plain : isSide (stageOf stage) ≡ false
   pub rows : Splits (rangeWords m s k) at (rangeRows (length s) k (first (stands .pass .coming)) (first (stands .extends .coming)))
   pub names : Splits (rangeNames m s k) to (concat (map (pieceIdentifierWords (length s)) (first (stands .pass .coming))))
 
--- and all of them fit so many
+-- and the rows of the whole range fit so many
 pub data InRange (m : Compat) (s : List ℕ) (k at to : ℕ) (stage : Stage) (left words ids : ℕ) : Type 0 where
   in-range : Going m s k at to stage left → length (rangeWords m s k) ≤ words → length (rangeNames m s k) ≤ ids → InRange m s k at to stage left words ids
 
 -- ---- where a range ends
 
--- No piece of the range with this number stands behind here.
+-- Of the range with this number nothing is to come.
 pub record Ending (m : Compat) (s : List ℕ) (k : ℕ) (stage : Stage) (left : ℕ) : Type 0 where
   pub stands : Standing m s k stage left
   pub pieces : stands .pass .coming ≡ [] ∷ later (stands .pass .coming)

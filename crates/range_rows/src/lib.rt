@@ -12,7 +12,7 @@ ghost use Rattle.walk.proofs.Ends.{isSide};
 ghost use Rattle.rows.specs.Put.{Put};
 ghost use Rattle.passes.specs.Views.{firstStep, Raisable, Signed};
 ghost use Rattle.step_rows.specs.Views.{stepComparatorWords, stepIdentifierWords};
-ghost use Rattle.range_rows.specs.Views.{isListed, itemWords, hyphenWords, hyphenNames, ItemFits, HyphenFits, Behind, rangeWords, rangeNames, AtRange, InRange, BehindRange, Writable};
+ghost use Rattle.range_rows.specs.Views.{isListed, itemWords, hyphenWords, hyphenNames, ItemFits, HyphenFits, StandsBehind, rangeWords, rangeNames, AtRange, InRange, BehindRange, Writable};
 use passes::goes_on;
 use range::Compat;
 use step_rows::put_comparators_at;
@@ -95,7 +95,7 @@ fn put_hyphen(
     requires { ⌜ HyphenFits (now s) range x y (length (now words)) (length (now ids)) ⌝ }
     ensures { λ r. ⌜ Put (now (words .entry)) 0 (hyphenWords (now (s .entry)) range x y) (now (words .exit)) (r .words) ⌝ }
     ensures ids { λ r. ⌜ Put (now (ids .entry)) 0 (hyphenNames (now (s .entry)) x y) (now (ids .exit)) (r .ids) ⌝ }
-    ensures behind { λ r. ⌜ Behind y (r .stage) (r .left) ⌝ }
+    ensures behind { λ r. ⌜ StandsBehind y (r .stage) (r .left) ⌝ }
 {
     let at = put_sides(words, range, s.len() - x.begin, x.begin - y.end, x, y);
     let to = put_qualifiers(s, ids, x, y);
@@ -115,7 +115,7 @@ fn put_item(s: &[u8], range: u64, words: &mut [u64], ids: &mut [u64], x: Step) -
     requires { ⌜ ItemFits (now s) range x (length (now words)) (length (now ids)) ⌝ }
     ensures { λ r. ⌜ Put (now (words .entry)) 0 (itemWords (now (s .entry)) range x) (now (words .exit)) (r .words) ⌝ }
     ensures ids { λ r. ⌜ Put (now (ids .entry)) 0 (stepIdentifierWords (now (s .entry)) x) (now (ids .exit)) (r .ids) ⌝ }
-    ensures behind { λ r. ⌜ Behind x (r .stage) (r .left) ⌝ }
+    ensures behind { λ r. ⌜ StandsBehind x (r .stage) (r .left) ⌝ }
 {
     let at = put_comparators_at(words, 0, range, s.len() - x.begin, x.begin - x.end, x);
     let to = put_qualifier_at(s, x, ids, 0);
