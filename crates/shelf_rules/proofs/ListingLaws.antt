@@ -107,7 +107,7 @@ module _ (code : ℕ) (l : List ℕ) where
       (λ s c. go s c (findCode code (entriesIn l)) refl)
       (λ q. let z : _≡_ {A = ℕ} 0 1 = cc in absurd (omega arith))
     where
-      go : length l ≡ 25602 → countIn l ≤ 256 → (o : Option ℕ) → findCode code (entriesIn l) ≡ o → listing l o ≡ accepted p → p .place + p .length ≤ length l
+      go : length l ≡ 37890 → countIn l ≤ 256 → (o : Option ℕ) → findCode code (entriesIn l) ≡ o → listing l o ≡ accepted p → p .place + p .length ≤ length l
       go s c none f q = let z : _≡_ {A = ℕ} 0 1 = cc in absurd (omega arith)
       go s c (some k) f q =
           let e : textPart k l ≡ p = cc in

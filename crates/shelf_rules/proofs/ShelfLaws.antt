@@ -8,6 +8,7 @@ use mathlib.Core.List.{List, [], _∷_, _++_, map}
 use native.Mathlib.Omega.{arith}
 use lib.Dec.{eqb, ltb, ltb→lt}
 use lib.ListN.{length, drop, getD, length-append}
+use lib.Seq.{take-at, drop-at, drop-drop}
 use borrow.Author.Tests.{eq-eqb, le-leb}
 use Rattle.rules.specs.Bytes.{pick}
 use Rattle.rules.specs.Lists.{All, all[], all∷}
@@ -16,53 +17,82 @@ use Rattle.rules.specs.Expansion.{Compat, Reading}
 use Rattle.rules.specs.Answers.{Answer, accepted, refused, unless, mapAnswer, orRefused, reading, andThen}
 use Rattle.rules.specs.Admission.{Question, admitsIf, versionOf}
 use Rattle.shelf_rules.specs.Table.{lowFirst, without, table}
-use Rattle.shelf_rules.specs.Shelf.{shelfSize, capacity, entryRow, countIn, entriesIn, withEntry, withoutEntry, findCode, isNone, sized, shelfIn, located, entryReading, emptied, emptyCall, addCall, removeCall, textIn, textCall, firstFitCall}
-use Rattle.shelf_rules.specs.Entries.{Entry, entry, rowOf, shelfOf, WellFormed, Distinct, distinct[], distinct∷, IsShelf, withoutCode, textWith, firstEntry, Built, empty, added, removed}
-use Rattle.shelf_rules.proofs.TableLaws.{low-length, all-snoc, all-without, without-length, table-rows, table-length, table-added, table-removed, map-snoc, map-without, map-length}
-use Rattle.shelf_rules.proofs.EntryLaws.{two-back, two-rest, formed-rows, find-within, find-none, find-text, find-without, first-fits}
+use Rattle.shelf_rules.specs.Triples.{boundsOf}
+use Rattle.shelf_rules.specs.Shelf.{shelfSize, capacity, entryRow, keptRow, countIn, entriesIn, keptIn, entryPlaces, withEntry, withoutEntry, findCode, isNone, sized, shelfIn, located, entryReading, emptied, emptyCall, addCall, removeCall, textIn, textCall, firstFitCall}
+use Rattle.shelf_rules.specs.Entries.{Entry, entry, rowOf, keptFrom, keptFor, shelfOf, WellFormed, Distinct, distinct[], distinct∷, IsShelf, withoutCode, textWith, firstEntry, Built, empty, added, removed}
+use Rattle.shelf_rules.proofs.TableLaws.{low-length, all-snoc, all-without, without-length, table-rows, table-rows-then, table-length, table-added, table-removed, map-snoc, map-without, map-length}
+use Rattle.shelf_rules.proofs.EntryLaws.{two-back, two-rest, formed-rows, formed-kepts, find-within, find-none, find-text, find-without, first-fits}
 
 -- ---- the bytes of entries
 
-shelf-is : (es : List Entry) → shelfOf es ≡ lowFirst 2 (length es) ++ table 100 256 (map rowOf es)
-unfolding shelfOf
-shelf-is es = refl
+module _ (es : List Entry) where
+  abbrev rows : List ℕ
+  rows = table 100 256 (map rowOf es)
+
+  abbrev kepts : List ℕ
+  kepts = table 48 256 (map keptFor es)
+
+  shelf-is : shelfOf es ≡ lowFirst 2 (length es) ++ (rows ++ kepts)
+  unfolding shelfOf
+  shelf-is = refl
 
 module _ (es : List Entry) (few : length es ≤ 256) (formed : All WellFormed es) where
   count-is : length (map rowOf es) ≡ length es
   count-is = map-length rowOf es
 
+  kept-count : length (map keptFor es) ≡ length es
+  kept-count = map-length keptFor es
+
   shelf-count : countIn (shelfOf es) ≡ length es
-  shelf-count = rw shelf-is (two-back (length es) (table 100 256 (map rowOf es)) (omega arith))
+  shelf-count = rw shelf-is (two-back (length es) (rows es ++ kepts es) (omega arith))
 
-  shelf-rest : drop 2 (shelfOf es) ≡ table 100 256 (map rowOf es)
-  shelf-rest = rw shelf-is (two-rest (length es) (table 100 256 (map rowOf es)))
+  rows-long : length (rows es) ≡ 25600
+  rows-long = table-length 100 256 (map rowOf es) (formed-rows formed) (omega (arith, count-is))
 
-  shelf-entries : entriesIn (shelfOf es) ≡ map rowOf es
+  kepts-long : length (kepts es) ≡ 12288
+  kepts-long = table-length 48 256 (map keptFor es) (formed-kepts formed) (omega (arith, kept-count))
+
+  shelf-rest : drop 2 (shelfOf es) ≡ rows es ++ kepts es
+  shelf-rest = rw shelf-is (two-rest (length es) (rows es ++ kepts es))
+
+  shelf-rows : entryPlaces (shelfOf es) ≡ rows es
+  shelf-rows = rw shelf-rest (take-at (rows es) (kepts es) 25600 rows-long)
+
+  shelf-kepts : drop 25602 (shelfOf es) ≡ kepts es
+  shelf-kepts = sym (drop-drop 25600 2 (shelfOf es)) ∙ ap (drop 25600) shelf-rest ∙ drop-at (rows es) (kepts es) 25600 rows-long
+
+  pub shelf-entries : entriesIn (shelfOf es) ≡ map rowOf es
   unfolding entriesIn
-  shelf-entries = rw (shelf-count, shelf-rest) (rw count-is at (table-rows 100 256 (map rowOf es) (formed-rows formed)))
+  shelf-entries = rw (shelf-count, shelf-rest) (rw count-is at (table-rows-then 100 256 (map rowOf es) (formed-rows formed) (kepts es)))
 
-  shelf-length : length (shelfOf es) ≡ 25602
+  pub shelf-kept : keptIn (shelfOf es) ≡ map keptFor es
+  unfolding keptIn
+  shelf-kept = rw (shelf-count, shelf-kepts) (rw kept-count at (table-rows 48 256 (map keptFor es) (formed-kepts formed)))
+
+  shelf-length : length (shelfOf es) ≡ 37890
   shelf-length =
-      let t = table-length 100 256 (map rowOf es) (formed-rows formed) (omega (arith, count-is)) in
-      ap length (shelf-is es) ∙ length-append (lowFirst 2 (length es)) (table 100 256 (map rowOf es)) ∙ omega (arith, t, low-length 2 (length es))
+      ap length (shelf-is es) ∙ length-append (lowFirst 2 (length es)) (rows es ++ kepts es)
+      ∙ omega (arith, length-append (rows es) (kepts es), rows-long, kepts-long, low-length 2 (length es))
 
-  shelf-accepted : shelfIn (shelfOf es) ≡ accepted (shelfOf es)
+  pub shelf-accepted : shelfIn (shelfOf es) ≡ accepted (shelfOf es)
   unfolding shelfIn
-  shelf-accepted = rw (eq-eqb (length (shelfOf es)) 25602 shelf-length, shelf-count, le-leb (length es) 256 few)
+  shelf-accepted = rw (eq-eqb (length (shelfOf es)) 37890 shelf-length, shelf-count, le-leb (length es) 256 few)
 
-  bytes-added : (e : Entry) → length es < 256 → withEntry (rowOf e) (shelfOf es) ≡ shelfOf (es ++ (e ∷ []))
+  bytes-added : (e : Entry) → length es < 256 → withEntry (rowOf e) (keptFor e) (shelfOf es) ≡ shelfOf (es ++ (e ∷ []))
   unfolding withEntry
   bytes-added e l =
       let n : length (es ++ (e ∷ [])) ≡ suc (length es) = omega (arith, length-append es (e ∷ [])) in
       let t = rw count-is at (table-added 100 256 (map rowOf es) (formed-rows formed) (rowOf e) (omega (arith, count-is))) in
-      rw (shelf-count, shelf-rest, t, shelf-is (es ++ (e ∷ [])), n, map-snoc)
+      let u = rw kept-count at (table-added 48 256 (map keptFor es) (formed-kepts formed) (keptFor e) (omega (arith, kept-count))) in
+      rw (shelf-count, shelf-rows, shelf-kepts, t, u, shelf-is (es ++ (e ∷ [])), n, map-snoc rowOf es e, map-snoc keptFor es e)
 
   bytes-removed : (k : ℕ) → k < length es → withoutEntry k (shelfOf es) ≡ shelfOf (without k es)
   unfolding withoutEntry
   bytes-removed k l =
       let n : length (without k es) ≡ length es - 1 = without-length k es l in
       let t = rw count-is at (table-removed 100 256 (map rowOf es) (formed-rows formed) k (omega (arith, count-is)) (omega (arith, count-is))) in
-      rw (shelf-count, shelf-rest, t, shelf-is (without k es), n, map-without)
+      let u = rw kept-count at (table-removed 48 256 (map keptFor es) (formed-kepts formed) k (omega (arith, kept-count)) (omega (arith, kept-count))) in
+      rw (shelf-count, shelf-rows, shelf-kepts, t, u, shelf-is (without k es), n, map-without rowOf k es, map-without keptFor k es)
 
 -- ---- what an accepted call says
 
@@ -71,19 +101,19 @@ record Adds (code : ℕ) (m : Compat) (t l l′ : List ℕ) : Type 0 where
   pub read : entryReading m t ≡ accepted reads
   pub fresh : findCode code (entriesIn l) ≡ none
   pub few : countIn l < 256
-  pub is : l′ ≡ withEntry (entryRow code m t) l
+  pub is : l′ ≡ withEntry (entryRow code m t) (keptRow (boundsOf reads)) l
 
 add-says : (code : ℕ) (m : Compat) (t l l′ : List ℕ) → shelfIn l ≡ accepted l → addCall code m t l ≡ accepted l′ → Adds code m t l l′
 unfolding addCall
 add-says code m t l l′ s q = go (entryReading m t) refl (findCode code (entriesIn l)) refl (ltb (countIn l) capacity) refl (rw s at q)
   where
     go : (a : Answer Reading) → entryReading m t ≡ a → (o : Option ℕ) → findCode code (entriesIn l) ≡ o → (b : Bool) → ltb (countIn l) capacity ≡ b
-        → andThen a (λ rs. mapAnswer (withEntry (entryRow code m t)) (unless 11 (λ l. ltb (countIn l) capacity) (pick (isNone o) (accepted l) (refused 12)))) ≡ accepted l′
+        → andThen a (λ rs. mapAnswer (withEntry (entryRow code m t) (keptRow (boundsOf rs))) (unless 11 (λ l. ltb (countIn l) capacity) (pick (isNone o) (accepted l) (refused 12)))) ≡ accepted l′
         → Adds code m t l l′
     go (refused n) e o f b g p = let z : _≡_ {A = ℕ} 0 1 = cc in absurd (omega arith)
     go (accepted rs) e (some k) f b g p = let z : _≡_ {A = ℕ} 0 1 = cc in absurd (omega arith)
     go (accepted rs) e none f true g p =
-        let r : accepted (withEntry (entryRow code m t) l) ≡ accepted l′ = rw g at p in
+        let r : accepted (withEntry (entryRow code m t) (keptRow (boundsOf rs)) l) ≡ accepted l′ = rw g at p in
         record { reads = rs; read = e; fresh = f; few = ltb→lt (countIn l) capacity (rw g tt); is = cc }
     go (accepted rs) e none f false g p =
         let r : refused 11 ≡ accepted l′ = rw g at p in
@@ -139,7 +169,9 @@ shelf-added {es} l′ code m t b s q =
     let n : length es < 256 = rw (shelf-count es (s .few) (s .formed)) at (a .few) in
     let f : findCode code (map rowOf es) ≡ none = rw (shelf-entries es (s .few) (s .formed)) at (a .fresh) in
     record {
-      is = a .is ∙ bytes-added es (s .few) (s .formed) (entry code m t) n;
+      is =
+          a .is ∙ ap (λ b. withEntry (entryRow code m t) b (shelfOf es)) (sym (ap keptFrom (a .read)))
+          ∙ bytes-added es (s .few) (s .formed) (entry code m t) n;
       few = omega (arith, length-append es (entry code m t ∷ []));
       distinct = distinct-snoc (entry code m t) (s .distinct) (find-none code es (s .formed) f);
       formed = all-snoc (s .formed) (record { bits = b; reads = a .reads; is = a .read });

@@ -143,6 +143,11 @@ module _ (w c : ℕ) (es : List (List ℕ)) (h : All (λ e. length e ≡ w) es) 
       let z : w * (c - (length es - 1)) ≡ w + w * (c - length es) = rw i at (more-left w c (length es - 1) j) in
       rw (table-rows, table-zeros, n, z, ← replicate-append-replicate)
 
+  -- other bytes behind it
+  pub table-rows-then : (r : List ℕ) → rowsOf w (length es) (table w c es ++ r) ≡ es
+  unfolding table
+  table-rows-then r = rw append-assoc (rows-of w es (replicate (w * (c - length es)) 0 ++ r) h)
+
 -- ---- lists
 
 module _ {A B : Type 0} (f : A → B) where
