@@ -88,6 +88,23 @@ all-without k all[] = all[]
 all-without zero (all∷ h hs) = hs
 all-without (suc k) (all∷ h hs) = all∷ h (all-without k hs)
 
+pub concat-length : (w : ℕ) (es : List (List ℕ)) → All (λ e. length e ≡ w) es → length (concat es) ≡ w * length es
+concat-length w [] all[] = sym (mul-zero w)
+concat-length w (e ∷ es) (all∷ h hs) = length-append e (concat es) ∙ omega (arith, h, concat-length w es hs, more w (length es))
+
+-- as many bytes as before
+pub removed-length : (w n k : ℕ) (b : List ℕ) → k < n → w * n ≤ length b → length (rowRemoved w n k b) ≡ length b
+unfolding rowRemoved
+removed-length w n k b l h =
+    let r = rows-length w n b in
+    let s : length (without k (rowsOf w n b)) ≡ n - 1 = without-length k (rowsOf w n b) (omega arith) ∙ rw r in
+    let c : length (concat (without k (rowsOf w n b))) ≡ w * (n - 1) = concat-length w (without k (rowsOf w n b)) (all-without k (rows-wide w n b h)) ∙ ap (λ i. w * i) s in
+    let i : suc (n - 1) ≡ n = omega arith in
+    let m : w * n ≡ w + w * (n - 1) = rw i at (more w (n - 1)) in
+    let z : List ℕ = replicate w 0 in
+    length-append (concat (without k (rowsOf w n b))) (z ++ drop (w * n) b)
+    ∙ omega (arith, c, m, length-append z (drop (w * n) b), length-replicate {A = ℕ} w 0, length-drop (w * n) b)
+
 -- ---- a number is had back from its bytes
 
 pub low-back : (n v : ℕ) → v < 256 ^ n → numberIn (lowFirst n v) ≡ v
@@ -104,10 +121,6 @@ more-left w c n h = let e : c - n ≡ suc (c - suc n) = omega arith in ap (λ k.
 
 drop-zeros : (w m : ℕ) → drop {A = ℕ} w (replicate (w + m) 0) ≡ replicate m 0
 drop-zeros w m = rw (← replicate-append-replicate) (drop-at (replicate w 0) (replicate m 0) w (length-replicate {A = ℕ} w 0))
-
-pub concat-length : (w : ℕ) (es : List (List ℕ)) → All (λ e. length e ≡ w) es → length (concat es) ≡ w * length es
-concat-length w [] all[] = sym (mul-zero w)
-concat-length w (e ∷ es) (all∷ h hs) = length-append e (concat es) ∙ omega (arith, h, concat-length w es hs, more w (length es))
 
 module _ (w c : ℕ) (es : List (List ℕ)) (h : All (λ e. length e ≡ w) es) where
   pub table-rows : rowsOf w (length es) (table w c es) ≡ es

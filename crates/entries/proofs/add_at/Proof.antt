@@ -7,11 +7,6 @@ pub add-at-spec : {M : Type 1} → statement M
 add-at-spec =
     tie.close
     (tie.spec
-    (λ c. search (addings, needs))
-    (λ c. search (addings, needs))
-    (λ c. search (addings, needs))
-    (λ c. search (addings, needs))
-    (λ c. search (addings, needs))
     (λ c κs. search (addings, needs))
     (λ c. search (addings, needs))
     (λ c. search (addings, needs))

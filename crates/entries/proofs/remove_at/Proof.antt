@@ -7,9 +7,6 @@ pub remove-at-spec : {M : Type 1} → statement M
 remove-at-spec =
     tie.close
     (tie.spec
-    (λ c. search (removings, needs))
-    (λ c. search (removings, needs))
-    (λ c. search (removings, needs))
     (λ c κs. search (removings, needs))
     (λ c. search (removings, needs))
     (λ c. search (removings, needs))
