@@ -17,7 +17,7 @@ use Rattle.rules.proofs.Accepted as A
 use Rattle.shelf_rules.specs.Table.{lowFirst, numberIn}
 use Rattle.shelf_rules.specs.Triples.{Triple, triple, atMost, larger, smaller, lowest, highest, isLower, isUpper, lowWith, highWith, lowFrom, highFrom, lowTriple, highTriple, leastFrom, greatestFrom, Bounds, boundsOf}
 use Rattle.shelf_rules.specs.Shelf.{tripleRow, keptRow, tripleIn, boundsIn}
-use Rattle.shelf_rules.proofs.TableLaws.{low-length, low-back}
+use Rattle.shelf_rules.proofs.TableLaws.{low-length, low-back, take-inside}
 
 -- ---- how many bytes
 
@@ -130,3 +130,19 @@ pub bounds-back : (m : Compat) (t : List ℕ) (rs : Reading) → reading m t ≡
 unfolding boundsOf readingFits
 bounds-back m t rs q =
     let f = reading-fits m t rs q in kept-back (boundsOf rs) (least-small rs highest highest-small f) (greatest-small rs lowest lowest-small f)
+
+-- ---- where they stand in more bytes
+
+module _ (w : ℕ) (z : List ℕ) where
+  triple-inside : (a : ℕ) → a + 24 ≤ w → tripleIn (drop a (take w z)) ≡ tripleIn (drop a z)
+  triple-inside a h =
+      ap₂ (λ x y. triple x y (numberIn (take 8 (drop 16 (drop a (take w z)))))) (ap numberIn (take-inside a 8 w z (omega arith))) (number 8 (omega arith))
+      ∙ ap (triple (numberIn (take 8 (drop a z))) (numberIn (take 8 (drop 8 (drop a z))))) (number 16 (omega arith))
+    where
+      number : (i : ℕ) → i + 8 ≤ 24 → numberIn (take 8 (drop i (drop a (take w z)))) ≡ numberIn (take 8 (drop i (drop a z)))
+      number i k =
+          ap (λ r. numberIn (take 8 r)) (drop-drop i a (take w z)) ∙ ap numberIn (take-inside (a + i) 8 w z (omega arith))
+          ∙ sym (ap (λ r. numberIn (take 8 r)) (drop-drop i a z))
+
+  pub bounds-inside : 48 ≤ w → boundsIn (take w z) ≡ boundsIn z
+  bounds-inside h = ap₂ (λ l h. record { low = l; high = h }) (triple-inside 0 (omega arith)) (triple-inside 24 (omega arith))

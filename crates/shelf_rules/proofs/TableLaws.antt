@@ -6,7 +6,7 @@ use mathlib.Core.List.{List, [], _∷_, _++_, map, append-assoc}
 use native.Mathlib.Omega.{arith}
 use native.Mathlib.Nat.{mul-zero, mul-suc, mul-add, mod-add-div, div-lt-iff-lt-mul, pow-zero, pow-suc}
 use lib.ListN.{length, take, drop, getD, replicate, length-append, length-drop, length-replicate, replicate-append-replicate}
-use lib.Seq.{take-add, drop-drop, take-at, drop-at, length-take-le}
+use lib.Seq.{take-add, take-take, drop-drop, take-at, drop-at, length-take-le}
 use Rattle.rules.specs.Lists.{concat, All, all[], all∷}
 use Rattle.shelf_rules.specs.Table.{rowsOf, without, lowFirst, numberIn, rowAdded, rowRemoved, table}
 
@@ -162,6 +162,13 @@ module _ (w c : ℕ) (es : List (List ℕ)) (h : All (λ e. length e ≡ w) es) 
   table-rows-then r = rw append-assoc (rows-of w es (replicate (w * (c - length es)) 0 ++ r) h)
 
 -- ---- lists
+
+-- a part of a row is a part of the bytes
+pub take-inside : (a n w : ℕ) (b : List ℕ) → a + n ≤ w → take n (drop a (take w b)) ≡ take n (drop a b)
+take-inside zero n w b h = take-take n w b (omega arith)
+take-inside (suc a) n zero b h = absurd (omega arith)
+take-inside (suc a) n (suc w) [] h = refl
+take-inside (suc a) n (suc w) (x ∷ b) h = take-inside a n w b (omega arith)
 
 module _ {A B : Type 0} (f : A → B) where
   pub map-snoc : (l : List A) (a : A) → map f (l ++ (a ∷ [])) ≡ map f l ++ (f a ∷ [])
