@@ -53,6 +53,13 @@ module _ (p : ℕ → Bool) (s : List ℕ) where
 
 pub ruleset scan = (scan-none, scan-end, scan-stop, scan-more)
 
+-- the place is counted by parts
+pub part-more : (p : ℕ → Bool) (s : List ℕ) (at n i : ℕ) → at + n ≡ i + 1 → Scanned p s i → i < length s → (r : Bool) → r ≡ p (getD s i 0) → r ≡ true
+    → Scanned p s (at + n)
+part-more p s at n i k h lt r q e = rw k (scan-more p s i h lt r q e)
+
+pub ruleset parts = (scan-none, scan-end, scan-stop, part-more)
+
 -- nothing is left where each byte is of the class
 pub alone : (p : ℕ → Bool) (s : List ℕ) (n : ℕ) → n ≡ length (rest p s) → eqb n 0 ≡ each p s
 unfolding count
