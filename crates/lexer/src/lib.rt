@@ -279,7 +279,10 @@ pub fn skip_number(s: &[u8]) -> usize
     if s[0] == b'0' {
         return s.len() - 1;
     }
-    skip_digits(s)
+    if is_digit(s[0]) {
+        return skip_digits(&s[1..]);
+    }
+    s.len()
 }
 
 // ---- fixed bytes
