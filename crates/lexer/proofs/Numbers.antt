@@ -248,11 +248,23 @@ skip-empty s h = ap (λ r. r .left) (number-empty s h) ∙ number-left s (readNu
 pub skip-zero : (s : List ℕ) → (length s ≡ 0 → ⊥) → getD s 0 0 ≡ 48 → length s - 1 ≡ leftOf s (readNumber s)
 skip-zero s h z = ap (λ r. r .left) (number-zero s h z) ∙ number-left s (readNumber s)
 
-pub skip-some : (s : List ℕ) → (length s ≡ 0 → ⊥) → (getD s 0 0 ≡ 48 → ⊥) → (n : ℕ) → n ≡ length (rest isDigit s) → n ≡ leftOf s (readNumber s)
-unfolding digitsAfter
-skip-some s h z n e = e ∙ ap (λ r. r .left) (number-digits s h z) ∙ number-left s (readNumber s)
+module _ (s : List ℕ) (h : length s ≡ 0 → ⊥) (z : getD s 0 0 ≡ 48 → ⊥) (r : Bool) (q : r ≡ isDigit (getD s 0 0)) where
+  pub skip-some : r ≡ true → (n : ℕ) → n ≡ length (rest isDigit (take (length s - 1) (drop 1 s))) → n ≡ leftOf s (readNumber s)
+  unfolding count
+  skip-some e n p = go s h z (sym q ∙ e) (rw (rest-in s 1) at p)
+    where
+      go : (s : List ℕ) → (length s ≡ 0 → ⊥) → (getD s 0 0 ≡ 48 → ⊥) → isDigit (getD s 0 0) ≡ true → n ≡ length (rest isDigit (drop 1 s)) → n ≡ leftOf s (readNumber s)
+      go [] h z d p = absurd (h refl)
+      go (c ∷ s) h z d p = rw (number-from c s z, d) p
+
+  pub skip-none : r ≡ false → length s ≡ leftOf s (readNumber s)
+  skip-none e = go s h z (sym q ∙ e)
+    where
+      go : (s : List ℕ) → (length s ≡ 0 → ⊥) → (getD s 0 0 ≡ 48 → ⊥) → isDigit (getD s 0 0) ≡ false → length s ≡ leftOf s (readNumber s)
+      go [] h z d = absurd (h refl)
+      go (c ∷ s) h z d = rw (number-from c s z, d)
 
 pub skip-within : (s : List ℕ) (n : ℕ) → n ≡ leftOf s (readNumber s) → n ≤ length s
 skip-within s n e = rw e (left-within (number-behind s))
 
-pub ruleset skips = (skip-empty, skip-zero, skip-some, skip-within)
+pub ruleset skips = (skip-empty, skip-zero, skip-some, skip-none, skip-within)

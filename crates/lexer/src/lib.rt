@@ -50,11 +50,14 @@ pub fn is_letter(b: u8) -> bool
     is_lower(b) | is_upper(b) | (b == b'-')
 }
 
-// A letter, a digit or `-`.
+// A letter, a digit or `-`; most are small letters.
 pub fn is_word(b: u8) -> bool
     ensures { λ r. ⌜ r ≡ isWord b ⌝ }
 {
-    is_letter(b) | is_digit(b)
+    if is_lower(b) {
+        return true;
+    }
+    is_upper(b) | (b == b'-') | is_digit(b)
 }
 
 pub fn is_wild(b: u8) -> bool
@@ -86,32 +89,61 @@ pub fn skip_spaces(s: &[u8]) -> usize
     0
 }
 
+// The bytes of digits and words, of which identifiers are made, are counted in 16 bits, by parts of at most so many.
+const LONGEST_PART: usize = 65535;
+
+// How many were passed: all before the part that begins at the place `at`, and n of that.
+struct Passed {
+    at: usize,
+    n: u16,
+}
+
+// The byte at the place i is passed too: one more of the part, or where that is full, the first of the next one.
+fn one_more(p: Passed, i: usize) -> Passed
+    requires { ⌜ p .at + p .n ≡ i ⌝ }
+    ensures { λ r. ⌜ r .at + r .n ≡ i + 1 ⌝ }
+{
+    if (p.n as usize) < LONGEST_PART {
+        return Passed {
+            at: p.at,
+            n: p.n + 1,
+        };
+    }
+    Passed { at: i, n: 1 }
+}
+
 pub fn skip_digits(s: &[u8]) -> usize
     ensures { λ r. ⌜ r ≡ length (rest isDigit (now (s .entry))) ⌝ }
 {
-    let mut i = 0;
-    while i < s.len() {
+    let mut p = Passed { at: 0, n: 0 };
+    loop {
+        let i = p.at + p.n as usize;
+        if s.len() <= i {
+            return 0;
+        }
         if is_digit(s[i]) {
-            i += 1;
+            p = one_more(p, i);
         } else {
             return s.len() - i;
         }
     }
-    0
 }
 
 pub fn skip_words(s: &[u8]) -> usize
     ensures { λ r. ⌜ r ≡ length (rest isWord (now (s .entry))) ⌝ }
 {
-    let mut i = 0;
-    while i < s.len() {
+    let mut p = Passed { at: 0, n: 0 };
+    loop {
+        let i = p.at + p.n as usize;
+        if s.len() <= i {
+            return 0;
+        }
         if is_word(s[i]) {
-            i += 1;
+            p = one_more(p, i);
         } else {
             return s.len() - i;
         }
     }
-    0
 }
 
 // ---- numbers
@@ -251,7 +283,10 @@ pub fn skip_number(s: &[u8]) -> usize
     if s[0] == b'0' {
         return s.len() - 1;
     }
-    skip_digits(s)
+    if is_digit(s[0]) {
+        return skip_digits(&s[1..]);
+    }
+    s.len()
 }
 
 // ---- fixed bytes
@@ -297,7 +332,7 @@ pub fn read_identifier(s: &[u8]) -> Identifier
         return Identifier {
             number: false,
             value: 0,
-            left: skip_words(s),
+            left: skip_words(&s[1..]),
         };
     }
     let n = read_number(s);
@@ -324,7 +359,7 @@ pub fn skip_identifier(s: &[u8]) -> usize
         return 0;
     }
     if is_letter(s[0]) {
-        return skip_words(s);
+        return skip_words(&s[1..]);
     }
     skip_number(s)
 }

@@ -206,7 +206,7 @@ fn show_sized(numbers: [u64; 9], text: &[u8], other: &[u8]) {
 }
 
 fn show_long(numbers: [u64; 9], text: &[u8], other: &[u8]) {
-    let mut whole = io::large_buffer();
+    let mut whole = [0u8; 131072];
     let mut second = io::large_buffer();
     lengthen(text, &mut whole);
     lengthen(other, &mut second);

@@ -47,6 +47,7 @@ pub mod VersionSound
 pub mod VersionComplete
 pub mod VersionAccepted
 pub mod PrecedenceLaws
+pub mod DigitOrder
 pub mod AdmissionLaws
 pub mod Bound
 pub mod PlainformLaws

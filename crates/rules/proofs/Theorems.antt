@@ -9,9 +9,9 @@ use mathlib.Core.Bool.{true, false}
 use mathlib.Core.List.{List, [], map}
 use lib.ListN.{length}
 use Rattle.rules.specs.Lists.{each, All, Some}
-use Rattle.rules.specs.Bytes.{bytes, largest}
-use Rattle.rules.specs.Syntax.{Range, componentsRead}
-use Rattle.rules.specs.Grammar.{ReadsText}
+use Rattle.rules.specs.Bytes.{bytes, isDigit, value, largest}
+use Rattle.rules.specs.Syntax.{Range, text, ofDigits, componentsRead}
+use Rattle.rules.specs.Grammar.{ReadsNumber, ReadsText}
 use Rattle.rules.specs.Parse.{ok, readText}
 use Rattle.rules.specs.Expansion.{Compat, Reading, Adds, pieces}
 use Rattle.rules.specs.Extents.{textExtents}
@@ -40,7 +40,7 @@ use Rattle.rules.proofs.Places as Places
 use Rattle.rules.proofs.RowPlaces as RowPlaces
 use Rattle.rules.proofs.DerivedExtentsLaws as DerivedExtentsLaws
 use Rattle.rules.specs.Version.{Version, placelessVersion, ReadsVersion, readVersion}
-use Rattle.rules.specs.Precedence.{less, equal, greater, precedence}
+use Rattle.rules.specs.Precedence.{less, equal, greater, compareNumbers, compareIdentifiers, precedence}
 use Rattle.rules.specs.Admission.{admits, versionFits, versionOf, admissionCall}
 use Rattle.rules.specs.Admits.{verdictLine, answerLine, sessions, sessionOutput, sessionGiven, rangeLines}
 use Rattle.rules.specs.AdmissionExamples.{chain, comparisons, orderExpected, orderAnswered, admissions, admissionExpected, admissionAnswered}
@@ -51,6 +51,7 @@ use Rattle.rules.proofs.VersionSound as VersionSound
 use Rattle.rules.proofs.VersionComplete as VersionComplete
 use Rattle.rules.proofs.VersionAccepted as VersionAccepted
 use Rattle.rules.proofs.PrecedenceLaws as PrecedenceLaws
+use Rattle.rules.proofs.DigitOrder as DigitOrder
 use Rattle.rules.proofs.AdmissionLaws as AdmissionLaws
 use Rattle.rules.proofs.PlainformLaws as PlainformLaws
 use Rattle.rules.proofs.AdmitsLaws as AdmitsLaws
@@ -217,6 +218,16 @@ precedence-turned = PrecedenceLaws.turned-less PrecedenceLaws.precedence-ordered
 
 pub precedence-transitive : (u v w : Version) → precedence u v ≡ less → precedence v w ≡ less → precedence u w ≡ less
 precedence-transitive = PrecedenceLaws.transitive PrecedenceLaws.precedence-ordered
+
+-- Semantic Versioning 2.0.0's rule 11 for identifiers of digits, as ranges and versions have them: they compare "by number at any length", though
+-- those above the largest number are read as texts, and are "below all others" (02, N4).
+pub digits-by-number : {s w r s′ w′ r′ : List ℕ} → ReadsNumber s w r → ReadsNumber s′ w′ r′ → (left left′ : ℕ)
+    → compareIdentifiers (ofDigits left w) (ofDigits left′ w′) ≡ compareNumbers (value w) (value w′)
+digits-by-number = DigitOrder.digits-by-number
+
+pub digits-below : {s w r : List ℕ} → ReadsNumber s w r → (w′ : List ℕ) → each isDigit w′ ≡ false → (left left′ : ℕ)
+    → compareIdentifiers (ofDigits left w) (text left′ w′) ≡ less
+digits-below = DigitOrder.digits-below
 
 -- the chain of Semantic Versioning 2.0.0's own example, and further comparisons
 pub precedence-chain : map orderAnswered chain ≡ map orderExpected chain
