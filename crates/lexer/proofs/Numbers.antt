@@ -1,4 +1,5 @@
--- `push`, `read_long`, `read_digits`, `read_number` and `skip_number`: a law for each of their ways.
+-- `push`, `read_digits`, `read_number` and `skip_number`: a law for each of their ways. A sum that may be too large has one record, `Summed`, in
+-- which the sum is unbounded.
 -- Assumes nothing.
 use Prim.Native.Nat.{ℕ, suc, _+_, _*_, _-_, _<_, _≤_}
 use mathlib.Core.Path.{_≡_, refl, _∙_, sym, ap}
@@ -12,11 +13,11 @@ use lib.Dec.{leb}
 use mir.Val.{Fits}
 use mir.Syntax.{w64}
 use lib.ListN.{length, getD, drop, take, length-drop}
-use lib.Seq.{drop-cons, length-take-le}
+use lib.Seq.{drop-cons}
 use Rattle.rules.specs.Bytes.{isDigit, isNonzero, value, valueFrom, largest, pick}
 use Rattle.rules.proofs.Follows.{both}
 use Rattle.rules.specs.Parse.{Result, fail, ok, _then_, choose, oneOf, count, run, literal, leftOf, readNumber}
-use Rattle.rules.proofs.Left.{rest-in, count-within, left-within, number-behind}
+use Rattle.rules.proofs.Left.{rest-in, left-within, number-behind}
 use Rattle.lexer.proofs.Scan.{count-end, count-stop, count-step}
 use Rattle.lexer.specs.Views.{rest, saturated, tooLarge, numberFrom, numberOf, digitsAfter, pushed}
 use Rattle.lexer.specs.declared.Sum.{Sum}
@@ -46,24 +47,41 @@ number-eq a b x y l m p q r = rw (p, q, r)
 
 -- ---- push
 
+digit-small : (c : ℕ) → isDigit c ≡ true → c - 48 ≤ 9
+unfolding isDigit
+digit-small c e = let h = leb-true c 57 (both (leb 48 c) (leb c 57) e .1) in omega arith
+
 module _ (v c d : ℕ) (e : d ≡ c - 48) where
-  pub push-fits : v ≤ 1844674407370955161 → d ≤ 18446744073709551615 - v * 10 → record { value = v * 10 + d; large = false } ≡ pushed v c
+  pushed-fits : v * 10 + (c - 48) ≤ largest → record { value = v * 10 + d; large = false } ≡ pushed v c
   unfolding pushed
-  push-fits h k =
-      let l : v * 10 + (c - 48) ≤ largest = omega arith in
-      sum-eq _ _ _ _ (ap (λ x. v * 10 + x) e ∙ sym (fits-is (v * 10 + (c - 48)) l)) (sym (fits-not (v * 10 + (c - 48)) l))
+  pushed-fits l = sum-eq _ _ _ _ (ap (λ x. v * 10 + x) e ∙ sym (fits-is (v * 10 + (c - 48)) l)) (sym (fits-not (v * 10 + (c - 48)) l))
 
   pushed-large : largest < v * 10 + (c - 48) → record { value = 18446744073709551615; large = true } ≡ pushed v c
   unfolding pushed
   pushed-large l = sum-eq _ _ _ _ (sym (large-is (v * 10 + (c - 48)) l)) (sym (large-marked (v * 10 + (c - 48)) l))
 
-  pub push-last : 18446744073709551615 - v * 10 < d → record { value = 18446744073709551615; large = true } ≡ pushed v c
-  push-last k = pushed-large (omega arith)
+  module _ (i : isDigit c ≡ true) where
+    pub push-room : v < 1844674407370955161 → v * 10 + d < 18446744073709551616
+    push-room h = omega (arith, digit-small c i)
 
-  pub push-tens : 1844674407370955161 < v → record { value = 18446744073709551615; large = true } ≡ pushed v c
-  push-tens k = pushed-large (omega arith)
+    pub push-below : v < 1844674407370955161 → record { value = v * 10 + d; large = false } ≡ pushed v c
+    push-below h = pushed-fits (omega (arith, digit-small c i))
 
-pub ruleset pushes = (push-fits, push-last, push-tens)
+  pub push-last : v ≡ 1844674407370955161 → d ≤ 5 → record { value = v * 10 + d; large = false } ≡ pushed v c
+  push-last h k = pushed-fits (omega arith)
+
+  pub push-over : v ≡ 1844674407370955161 → 5 < d → record { value = 18446744073709551615; large = true } ≡ pushed v c
+  push-over h k = pushed-large (omega arith)
+
+  pub push-above : 1844674407370955161 ≤ v → (v ≡ 1844674407370955161 → ⊥) → record { value = 18446744073709551615; large = true } ≡ pushed v c
+  push-above h k = pushed-large (omega arith)
+
+pub ruleset pushes = (push-room, push-below, push-last, push-over, push-above)
+
+-- a digit behind a value that was too large is too large again
+pushed-again : (t c : ℕ) → pushed (saturated t) c ≡ pushed t c
+unfolding pushed
+pushed-again t c = elim (decLe t largest) [ yes h ↦ rw (le-leb t largest h) | no h ↦ rw (lt-leb t largest (omega arith), lt-leb (largest * 10 + (c - 48)) largest (omega arith), lt-leb (t * 10 + (c - 48)) largest (omega arith)) ]
 
 -- ---- digits behind a value
 
@@ -80,103 +98,50 @@ module _ (s : List ℕ) (i v : ℕ) where
   unfolding digitsAfter valueFrom
   digits-step h e = rw (count-step isDigit s i h e, add-one, drop-cons s i 0)
 
--- digits behind a value make it no smaller
-value-grows : (v : ℕ) (ds : List ℕ) → v ≤ valueFrom v ds
-unfolding valueFrom
-value-grows v [] = omega arith
-value-grows v (c ∷ ds) = let h = value-grows (v * 10 + (c - 48)) ds in omega arith
-
--- one at least makes it ten times as large at least
-value-tenfold : (v : ℕ) (ds : List ℕ) → (length ds ≡ 0 → ⊥) → v * 10 ≤ valueFrom v ds
-unfolding valueFrom
-value-tenfold v [] z = absurd (z refl)
-value-tenfold v (c ∷ ds) z = let h = value-grows (v * 10 + (c - 48)) ds in omega arith
-
--- ---- read_long: a digit behind the value start, and n bytes left behind those that follow it
-
-module _ (s : List ℕ) (start : ℕ) (h : 1 ≤ length s) (e : isDigit (getD s 0 0) ≡ true) (n : ℕ) (q : n ≡ length (rest isDigit (take (length s - 1) (drop 1 s)))) where
-  left-is : n ≡ length (rest isDigit (drop 1 s))
-  left-is = rw (rest-in s 1) at q
-
-  further : n + count isDigit (drop 1 s) ≡ length s - 1
-  further = omega (arith, left-is, length-drop (count isDigit (drop 1 s)) (drop 1 s), length-drop 1 s, count-within isDigit (drop 1 s))
-
-  -- no digit follows
-  pub long-last : (a : Sum) → a ≡ pushed start (getD s 0 0) → n ≡ length s - 1 → record { value = a .value; large = a .large; left = n } ≡ digitsAfter start s
-  unfolding pushed digitsAfter valueFrom
-  long-last a p k =
-      let z : count isDigit (drop 1 s) ≡ 0 = omega (arith, further) in
-      number-eq _ _ _ _ _ _ (ap (λ x. x .value) p) (ap (λ x. x .large) p) (k ∙ sym (length-drop 1 s)) ∙ sym (digits-step s 0 start h e ∙ rw z)
-
-  -- one at least follows: too large
-  pub long-more : (n ≡ length s - 1 → ⊥) → 1844674407370955161 ≤ start → record { value = 18446744073709551615; large = true; left = n } ≡ digitsAfter start s
-  unfolding digitsAfter
-  long-more k g =
-      let v = start * 10 + (getD s 0 0 - 48) in
-      let t = drop 1 s in
-      let w = take (count isDigit t) t in
-      let z : length w ≡ 0 → ⊥ = λ m. k (omega (arith, further, length-take-le (count isDigit t) t (count-within isDigit t))) in
-      let l : largest < valueFrom v w = omega (arith, value-tenfold v w z) in
-      number-eq _ _ _ _ _ _ (sym (large-is (valueFrom v w) l)) (sym (large-marked (valueFrom v w) l)) left-is ∙ sym (digits-step s 0 start h e)
-
-pub ruleset longs = (long-last, long-more)
-
 -- ---- read_digits
 
-digit-small : (c : ℕ) → isDigit c ≡ true → c - 48 ≤ 9
-unfolding isDigit
-digit-small c e = let h = leb-true c 57 (both (leb 48 c) (leb c 57) e .1) in omega arith
-
--- the value start and the digits before the place i make this value, which fits
-pub record Summed (start : ℕ) (s : List ℕ) (i value : ℕ) : Type 0 where
+-- the digits before the place i are a sum so far
+pub record Summed (start : ℕ) (s : List ℕ) (i value : ℕ) (large : Bool) : Type 0 where
+  pub so-far : ℕ
   pub within : i ≤ length s
-  pub small : value ≤ largest
-  pub rest : digitsAfter start s ≡ digitsAfter value (drop i s)
+  pub is : value ≡ saturated so-far
+  pub marked : large ≡ tooLarge so-far
+  pub rest : digitsAfter start s ≡ digitsAfter so-far (drop i s)
 
 module _ (start : ℕ) (s : List ℕ) where
-  pub sum-none : Fits w64 start → Summed start s 0 start
-  sum-none f = record { within = omega arith; small = let l = f .fits in omega arith; rest = refl }
+  pub sum-none : Fits w64 start → Summed start s 0 start false
+  sum-none f =
+      let h : start ≤ largest = let l = f .fits in omega arith in
+      record { so-far = start; within = omega arith; is = sym (fits-is start h); marked = sym (fits-not start h); rest = refl }
 
-  module _ (i v : ℕ) (h : Summed start s i v) where
-    answer : (n : ℕ) → digitsAfter start s ≡ numberFrom v n → record { value = v; large = false; left = n } ≡ digitsAfter start s
-    answer n e = number-eq _ _ _ _ _ _ (sym (fits-is v (h .small))) (sym (fits-not v (h .small))) refl ∙ sym e
+  module _ (i v : ℕ) (l : Bool) (h : Summed start s i v l) where
+    answer : (n : ℕ) → digitsAfter start s ≡ numberFrom (h .so-far) n → record { value = v; large = l; left = n } ≡ digitsAfter start s
+    answer n e = number-eq _ _ _ _ _ _ (h .is) (h .marked) refl ∙ sym e
 
-    pub sum-end : i ≡ length s → record { value = v; large = false; left = 0 } ≡ digitsAfter start s
-    sum-end e = answer 0 (h .rest ∙ digits-end s i v (omega arith))
+    pub sum-end : length s ≤ i → record { value = v; large = l; left = 0 } ≡ digitsAfter start s
+    sum-end e = answer 0 (h .rest ∙ digits-end s i (h .so-far) e)
 
-    module _ (ne : i ≡ length s → ⊥) (r : Bool) (q : r ≡ isDigit (getD s i 0)) where
-      before-end : i < length s
-      before-end = let w = h .within in omega arith
+    module _ (lt : i < length s) (r : Bool) (q : r ≡ isDigit (getD s i 0)) where
+      pub sum-stop : r ≡ false → record { value = v; large = l; left = length s - i } ≡ digitsAfter start s
+      sum-stop e = answer (length s - i) (h .rest ∙ digits-stop s i (h .so-far) lt (sym q ∙ e))
 
-      pub sum-stop : not r ≡ true → record { value = v; large = false; left = length s - i } ≡ digitsAfter start s
-      sum-stop u = answer (length s - i) (h .rest ∙ digits-stop s i v before-end (sym q ∙ not-true r u))
+      pub sum-digit : r ≡ true → isDigit (getD s i 0) ≡ true
+      sum-digit e = sym q ∙ e
 
-      module _ (u : not r ≡ false) where
-        digit-here : isDigit (getD s i 0) ≡ true
-        digit-here = sym q ∙ not-false r u
-
-        -- what read_long asks
-        pub long-some : 1 ≤ length (take (length s - i) (drop i s))
-        long-some = rw (rest-in s i, length-drop i s) (omega (arith, before-end))
-
-        pub long-digit : isDigit (getD (take (length s - i) (drop i s)) 0 0) ≡ true
-        long-digit = rw (rest-in s i, drop-cons s i 0 before-end) digit-here
-
-        pub sum-long : (n : Number) → n ≡ digitsAfter v (take (length s - i) (drop i s)) → n ≡ digitsAfter start s
-        sum-long n p = rw (rest-in s i) at p ∙ sym (h .rest)
-
-        module _ (g : v < 1844674407370955161) (d : ℕ) (p : d ≡ getD s i 0 - 48) where
-          pub sum-room : v * 10 + d < 18446744073709551616
-          sum-room = omega (arith, digit-small (getD s i 0) digit-here)
-
-          pub sum-more : Summed start s (i + 1) (v * 10 + d)
-          sum-more = record {
-            within = omega (arith, before-end);
-            small = omega (arith, sum-room);
-            rest = rw p (h .rest ∙ digits-step s i v before-end digit-here);
+      pub sum-more : (a : Sum) → a ≡ pushed v (getD s i 0) → r ≡ true → Summed start s (i + 1) (a .value) (a .large)
+      unfolding pushed
+      sum-more a p e =
+          let c = getD s i 0 in
+          let w : a ≡ pushed (h .so-far) c = p ∙ ap (λ x. pushed x c) (h .is) ∙ pushed-again (h .so-far) c in
+          record {
+            so-far = h .so-far * 10 + (c - 48);
+            within = omega arith;
+            is = ap (λ x. x .value) w;
+            marked = ap (λ x. x .large) w;
+            rest = h .rest ∙ digits-step s i (h .so-far) lt (sym q ∙ e);
           }
 
-pub ruleset sums = (sum-none, sum-end, sum-stop, long-some, long-digit, sum-long, sum-room, sum-more)
+pub ruleset sums = (sum-none, sum-end, sum-stop, sum-digit, sum-more)
 
 -- ---- read_number, skip_number
 

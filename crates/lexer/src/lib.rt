@@ -3,7 +3,7 @@
 ghost use mathlib.Core.Path.{_≡_};
 ghost use Prim.Native.Nat.{_+_, _-_, _≤_};
 ghost use mathlib.Core.Bool.{true};
-ghost use lib.ListN.{length, getD};
+ghost use lib.ListN.{length};
 ghost use Rattle.rules.specs.Bytes.{isSpace, isDigit, isLetter, isWord, isWild, isSign, within};
 ghost use Rattle.rules.specs.Parse.{all, skip, leftOf, readNumber, readIdentifier, readDotIdentifier, readIdentifiers, readQualifier};
 ghost use Rattle.lexer.specs.Views.{rest, startsWith, pushed, digitsAfter, numberOf, identifierOf, identifiersOf};
@@ -172,11 +172,18 @@ fn digit(b: u8) -> u64
 
 // A digit more, or the largest, marked.
 fn push(value: u64, b: u8) -> Sum
+    requires { ⌜ isDigit b ≡ true ⌝ }
     ensures { λ r. ⌜ r ≡ pushed value b ⌝ }
 {
     let d = digit(b);
-    if value <= 1844674407370955161 {
-        if d <= 18446744073709551615 - value * 10 {
+    if value < 1844674407370955161 {
+        return Sum {
+            value: value * 10 + d,
+            large: false,
+        };
+    }
+    if value == 1844674407370955161 {
+        if d <= 5 {
             return Sum {
                 value: value * 10 + d,
                 large: false,
@@ -189,57 +196,32 @@ fn push(value: u64, b: u8) -> Sum
     }
 }
 
-// The digits that s begins with, behind digits of the value start, which leaves room for one more at the most: with two the number is too
-// large.
-fn read_long(s: &[u8], start: u64) -> Number
-    requires { ⌜ 1 ≤ length (now s) ⌝ }
-    requires { ⌜ isDigit (getD (now s) 0 0) ≡ true ⌝ }
-    requires { ⌜ 1844674407370955161 ≤ start ⌝ }
-    ensures { λ r. ⌜ r ≡ digitsAfter start (now (s .entry)) ⌝ }
-{
-    let a = push(start, s[0]);
-    let n = skip_digits(&s[1..]);
-    if n == s.len() - 1 {
-        return Number {
-            value: a.value,
-            large: a.large,
-            left: n,
-        };
-    }
-    Number {
-        value: 18446744073709551615,
-        large: true,
-        left: n,
-    }
-}
-
 // The digits that s begins with, behind digits of the value start.
 fn read_digits(s: &[u8], start: u64) -> Number
     ensures { λ r. ⌜ r ≡ digitsAfter start (now (s .entry)) ⌝ }
 {
     let mut value = start;
+    let mut large = false;
     let mut i = 0;
-    loop {
-        if i == s.len() {
-            return Number {
-                value,
-                large: false,
-                left: 0,
-            };
-        }
+    while i < s.len() {
         let b = s[i];
-        if !is_digit(b) {
+        if is_digit(b) {
+            let a = push(value, b);
+            value = a.value;
+            large = a.large;
+            i += 1;
+        } else {
             return Number {
                 value,
-                large: false,
+                large,
                 left: s.len() - i,
             };
         }
-        if 1844674407370955161 <= value {
-            return read_long(&s[i..], value);
-        }
-        value = value * 10 + digit(b);
-        i += 1;
+    }
+    Number {
+        value,
+        large,
+        left: 0,
     }
 }
 

@@ -6,10 +6,10 @@ use Rattle.lexer.proofs.read_digits.Statement.{statement}
 use Rattle.lexer.proofs.read_digits.Tie as tie
 
 abbrev Inv-loop : tie.InvT-loop
-Inv-loop s start value₀ i₀ value i = Summed start s i value
+Inv-loop s start value₀ large₀ i₀ value large i = Summed start s i value large
 
 abbrev μ-loop : tie.MeasureT-loop
-μ-loop s start value₀ i₀ value i = length s - i
+μ-loop s start value₀ large₀ i₀ value large i = length s - i
 
 pub read-digits-spec : {M : Type 1} → statement M
 read-digits-spec =
@@ -19,17 +19,10 @@ read-digits-spec =
     μ-loop
     (λ c. search (sums, needs))
     (λ c. search (sums, needs))
-    (λ c. search (sums, needs))
+    (λ c κs. search (sums, needs))
     (λ c κs. search (sums, needs))
     (λ c. search (sums, needs))
     (λ c. search (sums, needs))
-    (λ c. search (sums, needs))
-    (λ c. search (sums, needs))
-    (λ c. search (sums, needs))
-    (λ c κs. (search (sums, needs), (search (sums, needs), search (sums, needs))))
-    (λ c. search (sums, needs))
-    (λ c. search (sums, needs))
-    (λ c κs. search (sums, needs))
     (λ c. search (sums, needs))
     (λ c. search (sums, needs))
     (λ c. search (sums, needs))
