@@ -80,9 +80,10 @@ uint64_t maluwesi_equal_readings(const uint8_t *text, size_t text_len, uint8_t m
                                  const uint8_t *text2, size_t text2_len, uint8_t mode2,
                                  uint8_t *out, size_t out_len, uint8_t *out2, size_t out2_len, uint8_t *equal);
 
-/* ---- a shelf of at most 256 entries, each a part code, a mode and a range text of at most 96 bytes, in lent memory */
+/* ---- a shelf of at most 256 entries, each a part code, a mode and a range text of at most 96 bytes, in lent memory. With each entry stand the lowest
+ * and the highest triple of its text, by which the lookup goes. */
 
-#define MALUWESI_SHELF_BYTES 25602
+#define MALUWESI_SHELF_BYTES 37890
 
 /* Makes it empty: zeros in all bytes. Refuses with 10, by the length alone. */
 uint64_t maluwesi_shelf_clear(uint8_t *shelf, size_t shelf_len);
@@ -101,6 +102,12 @@ uint64_t maluwesi_shelf_find(const uint8_t *shelf, size_t shelf_len, uint16_t co
  * Refuses with 10, 8 and 9. */
 uint64_t maluwesi_shelf_first_fit(const uint8_t *shelf, size_t shelf_len, const uint8_t *version, size_t version_len,
                                   uint8_t *found, uint16_t *code);
+
+/* The lookup: as first fit, but only an entry whose triples enclose the version's is asked. On a shelf that these functions built from an empty one the
+ * answer is first fit's, some twenty times faster where few entries come near; in other memory the triples are taken as they stand. Refuses with 10, 8
+ * and 9. */
+uint64_t maluwesi_shelf_lookup(const uint8_t *shelf, size_t shelf_len, const uint8_t *version, size_t version_len,
+                               uint8_t *found, uint16_t *code);
 
 #ifdef __cplusplus
 }

@@ -54,10 +54,13 @@ pub listed-part : (code : ℕ) (l : List ℕ) (p : Part) → listCall code l ≡
 listed-part = ListingLaws.listed-part
 
 -- ---- 4. For a shelf built by calls from an empty one, the lookup by the kept triples and trying every entry give the same answer for every version
--- text, whatever is asked of a reading and a version, if a yes to it is a yes to 01's admission: a version that a text admits lies between its triples.
+-- text: by 01's admission, and by any question whose yes is a yes to the admission. A version that a text admits lies between its triples.
 
-pub lookup-same : (q : Question) → Implies q → (s : List ℕ) {l : List ℕ} → Built l → lookupCall q s l ≡ firstFitCall q s l
-lookup-same q i s b = LookupLaws.lookup-same q i s b
+pub lookup-same : {l : List ℕ} → Built l → (s : List ℕ) → lookupCall admits s l ≡ firstFitCall admits s l
+lookup-same b s = LookupLaws.lookup-same admits (λ rs v e. e) s b
+
+pub lookup-same-asked : (q : Question) → Implies q → {l : List ℕ} → Built l → (s : List ℕ) → lookupCall q s l ≡ firstFitCall q s l
+lookup-same-asked q i b s = LookupLaws.lookup-same q i s b
 
 pub enclosed : (rs : Reading) (v : Version) → versionFits v ≡ true → admits rs v ≡ true → encloses (boundsOf rs) (tripleOf v) ≡ true
 enclosed = TripleLaws.enclosed
