@@ -217,7 +217,10 @@ fn compare_calls(random: &mut Random, readings: &mut Readings, stock: &Stock, me
 /// The number of an answer, if what it found is what was expected.
 fn fit_number((number, found, code): (u64, u8, u16), expected: Result<Option<u16>, u64>) -> u64 {
     let same = (found, code) == expected.map_or((0, 0), |fit| fit.map_or((0, 0), |code| (1, code)));
-    if same { number } else { u64::MAX }
+    match same {
+        true => number,
+        false => u64::MAX,
+    }
 }
 
 fn refused_fit(fit: Result<Option<u16>, u64>) -> u64 {
