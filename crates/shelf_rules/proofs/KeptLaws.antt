@@ -11,7 +11,7 @@ use borrow.Author.Tests.{leb-true}
 use Rattle.rules.specs.Lists.{each}
 use Rattle.rules.specs.Bytes.{pick, largest}
 use Rattle.rules.specs.Expansion.{Compat, Comparator, comparator, Reading, expand}
-use Rattle.rules.specs.Answers.{Answer, accepted, refused, fits, comparatorFits, readingFits, reading}
+use Rattle.rules.specs.Answers.{Answer, accepted, fits, comparatorFits, readingFits, reading}
 use Rattle.rules.proofs.Follows.{both}
 use Rattle.rules.proofs.Accepted as A
 use Rattle.shelf_rules.specs.Table.{lowFirst, numberIn}

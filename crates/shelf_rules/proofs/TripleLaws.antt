@@ -1,7 +1,7 @@
 -- Laws of triples: their order, and that the bounds of a reading enclose every version that it admits.
 -- Assumes nothing.
-use Prim.Native.Nat.{ℕ, _≤_, _<_}
-use mathlib.Core.Path.{_≡_, refl, sym, ap, _∙_}
+use Prim.Native.Nat.{ℕ, _≤_}
+use mathlib.Core.Path.{_≡_, refl}
 use mathlib.Core.Bool.{Bool, true, false, _&&_, _||_}
 use mathlib.Core.List.{List, [], _∷_}
 use native.Mathlib.Omega.{arith}
@@ -16,7 +16,7 @@ use Rattle.rules.specs.Version.{Version, version}
 use Rattle.rules.specs.Precedence.{Order, less, equal, greater, _orElse_, compareNumbers, comparePrereleases, precedence}
 use Rattle.rules.specs.Admission.{holds, meets, admits, versionFits}
 use Rattle.rules.proofs.Follows.{both}
-use Rattle.rules.proofs.PrecedenceLaws.{Turned, less-turned, equal-turned, greater-turned, Chain, equal-first, equal-second, less-less, greater-greater, less-greater, greater-less, Ordered, numbers-ordered, precedence-ordered}
+use Rattle.rules.proofs.PrecedenceLaws.{Turned, less-turned, equal-turned, greater-turned, Chain, equal-first, equal-second, less-less, greater-greater, less-greater, greater-less, precedence-ordered}
 use Rattle.shelf_rules.specs.Triples.{Triple, triple, tripleOf, compareTriples, atMost, larger, smaller, lowest, highest, isLower, isUpper, lowWith, highWith, lowFrom, highFrom, lowTriple, highTriple, leastFrom, greatestFrom, boundsOf, encloses}
 
 -- ---- orders

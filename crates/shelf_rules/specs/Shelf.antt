@@ -33,9 +33,12 @@ entryWidth = 100
 abbrev pub longestText : ℕ
 longestText = 96
 
--- "six 64-bit numbers"
+-- "six 64-bit numbers", and three of them
 abbrev pub keptWidth : ℕ
 keptWidth = 48
+
+abbrev pub tripleWidth : ℕ
+tripleWidth = 24
 
 -- "after all the entries": where the kept triples begin
 abbrev pub keptPlace : ℕ
@@ -78,7 +81,7 @@ abbrev pub tripleIn : List ℕ → Triple
 tripleIn k = triple (numberIn (take 8 k)) (numberIn (take 8 (drop 8 k))) (numberIn (take 8 (drop 16 k)))
 
 abbrev pub boundsIn : List ℕ → Bounds
-boundsIn k = record { low = tripleIn k; high = tripleIn (drop 24 k) }
+boundsIn k = record { low = tripleIn k; high = tripleIn (drop tripleWidth k) }
 
 -- ---- the shelf's bytes
 

@@ -3,10 +3,10 @@
 use Prim.Native.Nat.{ℕ, _+_, _≤_}
 use mathlib.Core.Path.{_≡_, sym, ap, ap₂, _∙_}
 use mathlib.Core.Bool.{Bool, _&&_}
-use mathlib.Core.List.{List, _++_}
+use mathlib.Core.List.{List}
 use native.Mathlib.Omega.{arith}
 use lib.ListN.{length, take, drop}
-use lib.Seq.{sets, drop-drop}
+use lib.Seq.{drop-drop}
 use Rattle.rules.specs.Syntax as S
 use Rattle.rules.specs.Precedence.{_orElse_, compareNumbers}
 use Rattle.rules.specs.Admission.{holds}

@@ -3,12 +3,11 @@
 ghost use mathlib.Core.Path.{_≡_};
 ghost use Prim.Native.Nat.{_+_, _≤_, _<_};
 ghost use lib.ListN.{length, take, drop};
-ghost use lib.Seq.{sets};
 ghost use Rattle.rows.specs.Put.{Put};
 ghost use Rattle.shelf_rules.specs.Table.{lowFirst, numberIn};
 ghost use Rattle.shelf_rules.specs.Triples as Triples;
 ghost use Rattle.shelf_rules.specs.Triples.{atMost};
-ghost use Rattle.shelf_rules.specs.Shelf.{keptWidth, tripleRow, keptRow, tripleIn, boundsIn};
+ghost use Rattle.shelf_rules.specs.Shelf.{keptWidth, tripleWidth, tripleRow, keptRow, tripleIn, boundsIn};
 ghost use Rattle.triples.specs.Views.{tripleIs, boundsIs};
 use memory::two_at;
 use partial::Op;
@@ -86,8 +85,11 @@ fn put_eight(s: &mut [u8], at: usize, v: u64) -> usize
 
 // ---- triples in lent bytes
 
+// Three numbers of eight bytes.
+const TRIPLE_BYTES: usize = 24;
+
 fn triple_at(s: &[u8], at: usize) -> Triple
-    requires { ⌜ at + 24 ≤ length (now s) ⌝ }
+    requires { ⌜ at + tripleWidth ≤ length (now s) ⌝ }
     ensures { λ r. ⌜ tripleIs r ≡ tripleIn (drop at (now (s .entry))) ⌝ }
 {
     let major = eight_at(s, at);
@@ -105,12 +107,12 @@ pub fn bounds_at(s: &[u8], at: usize) -> Bounds
     ensures { λ r. ⌜ boundsIs r ≡ boundsIn (drop at (now (s .entry))) ⌝ }
 {
     let low = triple_at(s, at);
-    let high = triple_at(s, at + 24);
+    let high = triple_at(s, at + TRIPLE_BYTES);
     Bounds { low, high }
 }
 
 fn put_triple(s: &mut [u8], at: usize, t: Triple) -> usize
-    requires { ⌜ at + 24 ≤ length (now s) ⌝ }
+    requires { ⌜ at + tripleWidth ≤ length (now s) ⌝ }
     ensures { λ r. ⌜ Put (now (s .entry)) at (tripleRow (tripleIs t)) (now (s .exit)) r ⌝ }
 {
     let b = put_eight(s, at, t.major);
