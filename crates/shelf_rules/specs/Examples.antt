@@ -1,6 +1,6 @@
 -- Worked examples of the shelf's calls, with whole memories of 37,890 bytes. The theorems hold the definitions to them.
 -- Assumes nothing.
-use Prim.Native.Nat.{ℕ, _-_}
+use Prim.Native.Nat.{ℕ, zero, suc, _-_}
 use Prim.Native.String.{String}
 use mathlib.Core.Option.{Option, none, some}
 use mathlib.Core.List.{List, [], _∷_, _++_}
@@ -15,9 +15,14 @@ use Rattle.shelf_rules.specs.Lookup.{lookupCall}
 
 -- ---- memories
 
+-- a byte n times, then others
+abbrev pub times : ℕ → ℕ → List ℕ → List ℕ
+times zero c l = l
+times (suc n) c l = c ∷ times n c l
+
 -- these bytes first, these where the kept triples begin, and this one in all others
 abbrev pub memory : List ℕ → List ℕ → ℕ → List ℕ
-memory b k c = b ++ (replicate (keptPlace - length b) c ++ (k ++ replicate (shelfSize - keptPlace - length k) c))
+memory b k c = b ++ times (keptPlace - length b) c (k ++ replicate (shelfSize - keptPlace - length k) c)
 
 -- 96 bytes: a text and zeros behind it
 abbrev pub filled : String → List ℕ
