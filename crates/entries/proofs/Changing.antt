@@ -16,7 +16,7 @@ use Rattle.rows.specs.Put.{Put}
 use Rattle.rows.proofs.Stores.{part-back}
 use Rattle.shelf_rules.specs.Table.{lowFirst, rowAdded, rowRemoved}
 use Rattle.shelf_rules.specs.Triples.{Bounds}
-use Rattle.shelf_rules.specs.Shelf.{entryRow, keptRow, countIn, entryPlaces, withEntry, withoutEntry}
+use Rattle.shelf_rules.specs.Shelf.{entryRow, keptRow, entryPlaces, withEntry, withoutEntry}
 use Rattle.shelf_rules.proofs.TableLaws.{rows-concat, removed-length}
 use Rattle.shelf_rules.proofs.KeptLaws.{kept-length}
 use Rattle.shelf_rules.proofs.EntryLaws.{entry-length}
@@ -102,7 +102,8 @@ module _ (l : List ℕ) (n : ℕ) (c : Counted l n) (h : n < 256) where
   pub add-rows-done : (code : ℕ) (m : Compat) (x y r : List ℕ) (b : Bounds) (i : ℕ) → length x ≤ 96
       → y ≡ sets (take (length l - (2 + 100 * n)) (drop (2 + 100 * n) l)) 0 (entryRow code m x)
       → Put (putMid (2 + 100 * n) (length l - (2 + 100 * n)) l y) (25602 + 48 * n) (keptRow b) r i
-      → drop 2 r ≡ rowAdded 100 n (entryRow code m x) (entryPlaces l) ++ rowAdded 48 n (keptRow b) (drop 25602 l)
+      → lowFirst 2 (n + 1) ++ drop 2 r ≡ withEntry (entryRow code m x) (keptRow b) l
+  unfolding withEntry
   add-rows-done code m x y r b i k p q =
       let s = c .sized in
       let e = entryRow code m x in
@@ -117,24 +118,18 @@ module _ (l : List ℕ) (n : ℕ) (c : Counted l n) (h : n < 256) where
       let parts : d ≡ entryPlaces l ++ drop 25602 l = sym (take-append-drop 25600 d) ∙ ap (λ z. entryPlaces l ++ z) kept in
       let an : length (sets (entryPlaces l) (100 * n) e) ≡ 25600 = length-sets (entryPlaces l) (100 * n) e ∙ tn in
       let at : 25602 + 48 * n ≡ 2 + (25600 + 48 * n) = omega arith in
-      ap (drop 2) (q .stored ∙ ap (λ z. sets z (25602 + 48 * n) w) (entry-stored e y p) ∙ ap (λ z. sets (sets l (2 + 100 * n) e) z w) at)
+      let both : drop 2 r ≡ rowAdded 100 n e (entryPlaces l) ++ rowAdded 48 n w (drop 25602 l)
+      = ap (drop 2) (q .stored ∙ ap (λ z. sets z (25602 + 48 * n) w) (entry-stored e y p) ∙ ap (λ z. sets (sets l (2 + 100 * n) e) z w) at)
       ∙ drop-sets (sets l (2 + 100 * n) e) 2 (25600 + 48 * n) w
       ∙ ap (λ z. sets z (25600 + 48 * n) w)
       (drop-sets l 2 (100 * n) e ∙ ap (λ z. sets z (100 * n) e) parts ∙ sets-left (entryPlaces l) (drop 25602 l) (100 * n) e (omega arith))
       ∙ ap (λ z. sets (sets (entryPlaces l) (100 * n) e ++ drop 25602 l) (z + 48 * n) w) (sym an)
       ∙ sets-right (sets (entryPlaces l) (100 * n) e) (drop 25602 l) (48 * n) w (omega arith)
-      ∙ ap₂ _++_ (row-set 100 n e (entryPlaces l) en (omega arith)) (row-set 48 n w (drop 25602 l) wn (omega arith))
+      ∙ ap₂ _++_ (row-set 100 n e (entryPlaces l) en (omega arith)) (row-set 48 n w (drop 25602 l) wn (omega arith)) in
+      ap₂ (λ i z. lowFirst 2 i ++ z) (add-one n) both
+      ∙ ap (λ i. lowFirst 2 (suc i) ++ (rowAdded 100 i e (entryPlaces l) ++ rowAdded 48 i w (drop 25602 l))) (sym (c .is))
 
 pub ruleset rowAdds = (add-room, kept-room, add-rows-done)
-
--- ---- add_at
-
-pub add-done : (l : List ℕ) (n : ℕ) (e w y r : List ℕ) → Counted l n → drop 2 y ≡ rowAdded 100 n e (entryPlaces l) ++ rowAdded 48 n w (drop 25602 l)
-    → r ≡ lowFirst 2 (n + 1) ++ drop 2 y → r ≡ withEntry e w l
-unfolding withEntry
-add-done l n e w y r c p q = let i : countIn l ≡ n = c .is in q ∙ rw (p, i, add-one)
-
-pub ruleset addings = (add-done)
 
 -- ---- remove_rows
 
@@ -192,18 +187,19 @@ module _ (l : List ℕ) (n k : ℕ) (c : Counted l n) (h : k < n) where
         omega (arith, length-drop 25602 l)
 
     pub rows-done : (z : List ℕ) → z ≡ rowRemoved 48 n k (take (length (putMid 2 (25602 - 2) l y) - 25602) (drop 25602 (putMid 2 (25602 - 2) l y)))
-        → drop 2 (putMid 25602 (length (putMid 2 (25602 - 2) l y) - 25602) (putMid 2 (25602 - 2) l y) z) ≡ rowRemoved 100 n k (entryPlaces l) ++ rowRemoved 48 n k (drop 25602 l)
+        → lowFirst 2 (n - 1) ++ drop 2 (putMid 25602 (length (putMid 2 (25602 - 2) l y) - 25602) (putMid 2 (25602 - 2) l y) z) ≡ withoutEntry k l
+    unfolding withoutEntry
     rows-done z q =
-        twice-drop l y 2 25602 (omega arith) inside same z
-        ∙ ap₂ _++_ p (q ∙ ap (rowRemoved 48 n k) (once-rest l y 2 25602 (omega arith) inside same))
+        ap (λ r. lowFirst 2 (n - 1) ++ r)
+        (twice-drop l y 2 25602 (omega arith) inside same z ∙ ap₂ _++_ p (q ∙ ap (rowRemoved 48 n k) (once-rest l y 2 25602 (omega arith) inside same)))
+        ∙ ap (λ i. lowFirst 2 (i - 1) ++ (rowRemoved 100 i k (entryPlaces l) ++ rowRemoved 48 i k (drop 25602 l))) (sym (c .is))
 
 pub ruleset rowRemovals = (rows-room, kept-within, kepts-room, rows-done)
 
--- ---- remove_at
+-- ---- add_at, remove_at
 
-pub remove-done : (l : List ℕ) (n k : ℕ) → Counted l n → (y r : List ℕ) → drop 2 y ≡ rowRemoved 100 n k (entryPlaces l) ++ rowRemoved 48 n k (drop 25602 l)
-    → r ≡ lowFirst 2 (n - 1) ++ drop 2 y → r ≡ withoutEntry k l
-unfolding withoutEntry
-remove-done l n k c y r p q = let e : countIn l ≡ n = c .is in q ∙ rw (p, e)
+-- the count in the first two bytes
+pub counted : (r w y x : List ℕ) → w ++ drop 2 y ≡ x → r ≡ w ++ drop 2 y → r ≡ x
+counted r w y x p q = q ∙ p
 
-pub ruleset removings = (remove-done)
+pub ruleset counts = (counted)

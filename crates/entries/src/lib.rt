@@ -2,13 +2,13 @@
 // stands, one put behind them and one removed. "Shelf", "entry" and "part code" are 02's words.
 ghost use mathlib.Core.Path.{_≡_};
 ghost use mathlib.Core.List.{_++_};
-ghost use Prim.Native.Nat.{_+_, _*_, _≤_, _<_};
+ghost use Prim.Native.Nat.{_+_, _*_, _-_, _≤_, _<_};
 ghost use lib.ListN.{length, drop};
 ghost use lib.Seq.{sets};
 ghost use Rattle.rules.specs.Answers.{mapAnswer};
 ghost use Rattle.range.specs.Views.{compatOf};
-ghost use Rattle.shelf_rules.specs.Table.{rowsOf, rowAdded, rowRemoved};
-ghost use Rattle.shelf_rules.specs.Shelf.{entryWidth, longestText, capacity, keptWidth, keptPlace, entryRow, keptRow, codeIn, countIn, findCode, entryPlaces, withEntry, withoutEntry, shelfIn};
+ghost use Rattle.shelf_rules.specs.Table.{rowsOf, lowFirst};
+ghost use Rattle.shelf_rules.specs.Shelf.{entryWidth, longestText, capacity, entryRow, keptRow, codeIn, countIn, findCode, withEntry, withoutEntry, shelfIn};
 ghost use Rattle.triples.specs.Views.{boundsIs};
 ghost use Rattle.entries.specs.Views.{Counted, rowAt, countOf, foundOf, partAt};
 use memory::put_padded;
@@ -129,12 +129,12 @@ fn put_entry(row: &mut [u8], code: u16, compat: Compat, text: &[u8])
     put_padded(row, 4, text, TEXT_BYTES);
 }
 
-// An entry's bytes, and those of its triples, behind n.
+// One entry more, behind n, but for the count.
 fn add_rows(shelf: &mut [u8], n: usize, code: u16, compat: Compat, text: &[u8], b: Bounds)
     requires { ⌜ Counted (now shelf) n ⌝ }
     requires { ⌜ n < capacity ⌝ }
     requires { ⌜ length (now text) ≤ longestText ⌝ }
-    ensures { λ _. ⌜ drop 2 (now (shelf .exit)) ≡ rowAdded entryWidth n (entryRow code (compatOf compat) (now (text .entry))) (entryPlaces (now (shelf .entry))) ++ rowAdded keptWidth n (keptRow (boundsIs b)) (drop keptPlace (now (shelf .entry))) ⌝ }
+    ensures { λ _. ⌜ lowFirst 2 (n + 1) ++ drop 2 (now (shelf .exit)) ≡ withEntry (entryRow code (compatOf compat) (now (text .entry))) (keptRow (boundsIs b)) (now (shelf .entry)) ⌝ }
 {
     let at = 2 + ENTRY_BYTES * n;
     put_entry(&mut shelf[at..], code, compat, text);
@@ -152,11 +152,11 @@ pub fn add_at(shelf: &mut [u8], n: usize, code: u16, compat: Compat, text: &[u8]
     put_two(shelf, (n + 1) as u16);
 }
 
-// The bytes of the entry at k, and those of its triples, go, of n.
+// The entry at k goes, of n, but for the count.
 fn remove_rows(shelf: &mut [u8], n: usize, k: usize)
     requires { ⌜ Counted (now shelf) n ⌝ }
     requires { ⌜ k < n ⌝ }
-    ensures { λ _. ⌜ drop 2 (now (shelf .exit)) ≡ rowRemoved entryWidth n k (entryPlaces (now (shelf .entry))) ++ rowRemoved keptWidth n k (drop keptPlace (now (shelf .entry))) ⌝ }
+    ensures { λ _. ⌜ lowFirst 2 (n - 1) ++ drop 2 (now (shelf .exit)) ≡ withoutEntry k (now (shelf .entry)) ⌝ }
 {
     remove_row(&mut shelf[2..KEPT_PLACE], ENTRY_BYTES, n, k);
     remove_row(&mut shelf[KEPT_PLACE..], KEPT_BYTES, n, k);
