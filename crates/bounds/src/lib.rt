@@ -25,6 +25,9 @@ use walk::next;
 
 // ---- triples
 
+// The largest number of a triple.
+const LARGEST: u64 = 18446744073709551615;
+
 fn larger(t: Triple, u: Triple) -> Triple
     ensures { λ r. ⌜ tripleIs r ≡ Triples.larger (tripleIs t) (tripleIs u) ⌝ }
 {
@@ -43,13 +46,23 @@ fn smaller(t: Triple, u: Triple) -> Triple
     u
 }
 
-fn same_numbers(n: u64) -> Triple
-    ensures { λ r. ⌜ tripleIs r ≡ Triples.triple n n n ⌝ }
+fn lowest() -> Triple
+    ensures { λ r. ⌜ tripleIs r ≡ lowest ⌝ }
 {
     Triple {
-        major: n,
-        minor: n,
-        patch: n,
+        major: 0,
+        minor: 0,
+        patch: 0,
+    }
+}
+
+fn highest() -> Triple
+    ensures { λ r. ⌜ tripleIs r ≡ highest ⌝ }
+{
+    Triple {
+        major: LARGEST,
+        minor: LARGEST,
+        patch: LARGEST,
     }
 }
 
@@ -160,8 +173,8 @@ fn with_step(b: Bounds, x: Step) -> Bounds
 fn everything() -> Bounds
     ensures { λ r. ⌜ boundsIs r ≡ everything ⌝ }
 {
-    let low = same_numbers(0);
-    let high = same_numbers(18446744073709551615);
+    let low = lowest();
+    let high = highest();
     Bounds { low, high }
 }
 
@@ -198,8 +211,8 @@ pub fn bounds_of(s: &[u8], compat: Compat) -> Bounds
     requires { ⌜ Accepts (compatOf compat) (now s) ⌝ }
     ensures { λ r. ⌜ accepted (boundsIs r) ≡ mapAnswer boundsOf (reading (compatOf compat) (now (s .entry))) ⌝ }
 {
-    let low = same_numbers(18446744073709551615);
-    let high = same_numbers(0);
+    let low = highest();
+    let high = lowest();
     let mut all = Bounds { low, high };
     let mut range = everything();
     let mut x = next(s, Stage::Range, compat);
