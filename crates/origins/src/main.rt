@@ -5,10 +5,10 @@ ghost use lib.ListN.{length};
 use normal_text::NormalText;
 use normal_text::normal_text;
 use range::Compat;
+use range::Mode;
 use rangeset::identifier_bytes;
 use rangeset::read;
 use rows::COMPARATOR_WORDS;
-use streams::same_word;
 
 // How many bytes are enough for the normal text of every range, and how many words for its comparators and its identifiers.
 const BYTES: usize = 524288;
@@ -103,35 +103,16 @@ fn run(compat: Compat, range: &[u8]) {
 
 // ---- the arguments
 
-// A range that is over 65,536 bytes is refused by its first 65,536, as every text of so many.
 fn run_mode(compat: Compat) {
     let mut range = io::large_buffer();
-    let n = os::arg(2, &mut range);
-    if os::errno() == libc::ENAMETOOLONG {
-        run(compat, &range);
-        return;
-    }
+    let n = arguments::range(&mut range);
     run(compat, &range[..n]);
 }
 
-fn usage() {
-    streams::put_usage(b"origins", b"origins cargo|npm RANGE\n");
-}
-
 fn main() {
-    let mut mode = [0u8; 8];
-    let n = os::arg(1, &mut mode);
-    if os::arg_count() != 3 {
-        usage();
-        return;
+    let mode = arguments::mode();
+    match mode {
+        Mode::Compat(compat) => run_mode(compat),
+        Mode::Nothing => streams::put_usage(b"origins", b"origins cargo|npm RANGE\n"),
     }
-    if same_word(&mode[..n], b"cargo") {
-        run_mode(Compat::Cargo);
-        return;
-    }
-    if same_word(&mode[..n], b"npm") {
-        run_mode(Compat::Npm);
-        return;
-    }
-    usage();
 }
