@@ -11,7 +11,8 @@ fn sources(text: &str, compat: Compat) -> Vec<Vec<&str>> {
 #[test]
 fn each_comparator_has_its_item() {
     let text = " >= 1.2.3-a.1,\t~>1.x  <3";
-    assert_eq!(sources(text, Compat::Npm), [[">= 1.2.3-a.1", "~>1.x", "~>1.x", "<3"]]);
+    let items = [">= 1.2.3-a.1", "~>1.x", "~>1.x", "<3"];
+    assert_eq!(sources(text, Compat::Npm), [items]);
 }
 
 #[test]
