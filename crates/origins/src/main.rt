@@ -6,6 +6,7 @@ use normal_text::NormalText;
 use normal_text::normal_text;
 use range::Compat;
 use range::Mode;
+use rangeset::Reading;
 use rangeset::identifier_bytes;
 use rangeset::read;
 use rows::COMPARATOR_WORDS;
@@ -70,12 +71,22 @@ fn put_refusal(number: u64) -> bool {
 
 // ---- the answer
 
-fn answer(compat: Compat, range: &[u8], normal: &mut [u8], words: &mut [u64], ids: &mut [u64]) {
-    read(range, compat, words, ids);
+// The lines of a range whose rows these are.
+fn put_spelled(compat: Compat, range: &[u8], normal: &mut [u8], words: &[u64]) {
     let r = normal_text(range, compat, normal);
     match r {
         NormalText::Written(len) => put_lines(range, &normal[..len], words),
         NormalText::Refused(refusal) => {
+            put_refusal(refusal.number());
+        }
+    }
+}
+
+fn answer(compat: Compat, range: &[u8], normal: &mut [u8], words: &mut [u64], ids: &mut [u64]) {
+    let r = read(range, compat, words, ids);
+    match r {
+        Reading::Accepted(counts) => put_spelled(compat, range, normal, words),
+        Reading::Refused(refusal) => {
             put_refusal(refusal.number());
         }
     }
