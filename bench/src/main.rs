@@ -8,7 +8,7 @@ mod table;
 mod texts;
 
 use peers::{Peer, ADMITTERS, READERS, SPELLERS};
-use shelf::{ADDERS, FITTERS};
+use shelf::{ADDERS, FITTERS, SEEKERS};
 use std::hint::black_box;
 use std::time::{Duration, Instant};
 use texts::Text;
@@ -29,7 +29,8 @@ fn acts() -> Vec<Act> {
         Act { name: "admit", peers: &ADMITTERS, texts: short() },
         Act { name: "grow", peers: ours, texts: texts::growing() },
         Act { name: "first fit", peers: &FITTERS, texts: texts::on_shelf() },
-        Act { name: "add", peers: &ADDERS, texts: texts::on_shelf() },
+        Act { name: "lookup", peers: &SEEKERS, texts: texts::on_shelf() },
+        Act { name: "add", peers: &ADDERS, texts: texts::on_shelf().into_iter().take(1).collect() },
     ]
 }
 

@@ -10,7 +10,7 @@ pub const CARGO: u8 = 0;
 pub struct Lent<T, const N: usize>(pub UnsafeCell<[T; N]>);
 // One thread runs the acts.
 unsafe impl<T, const N: usize> Sync for Lent<T, N> {}
-const WORDS_LEN: usize = 6 * 65_536;
+const WORDS_LEN: usize = 8 * 65_536;
 const IDS_LEN: usize = 3 * 32_765;
 const BYTES_LEN: usize = 8 * 65_535 + 7;
 static WORDS: Lent<u64, WORDS_LEN> = Lent(UnsafeCell::new([0; WORDS_LEN]));

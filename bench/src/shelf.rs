@@ -1,58 +1,62 @@
-//! The shelf's acts, ours alone: first fit over 256 entries of the text, none of which fits, and the add of the text to 255.
+//! The shelf's acts, ours alone, on a shelf whose entries are the lines of the text: first fit and the lookup of a version that none of them admits,
+//! and the add of the last entry.
 
-use maluwesi::ffi;
 use crate::peers::{Lent, Peer, CARGO};
+use maluwesi::ffi;
 use std::cell::UnsafeCell;
+use std::sync::atomic::{AtomicUsize, Ordering};
 
-const SHELF_LEN: usize = 25_602;
-const ENTRIES: usize = 256;
+const SHELF_LEN: usize = 37_890;
+const ENTRY_LEN: usize = 20;
 const VERSION: &str = "9.9.9";
 static SHELF: Lent<u8, SHELF_LEN> = Lent(UnsafeCell::new([0; SHELF_LEN]));
+/// Where the text stands whose lines are on the shelf.
+static ON_SHELF: AtomicUsize = AtomicUsize::new(0);
 
 pub const FITTERS: [Peer; 1] = [Peer { name: "maluwesi", act: fits_first }];
+pub const SEEKERS: [Peer; 1] = [Peer { name: "maluwesi", act: looks_up }];
 pub const ADDERS: [Peer; 1] = [Peer { name: "maluwesi", act: adds }];
 
-/// The shelf has this many entries from now on; those that were there stay.
-fn set_count(count: usize) {
-    // SAFETY: one thread runs the acts, and no call runs now.
-    let shelf: &mut [u8; SHELF_LEN] = unsafe { &mut *SHELF.0.get() };
-    shelf[..2].copy_from_slice(&(count as u16).to_le_bytes());
-}
-
-fn add(text: &str, code: u16) -> u64 {
+fn add(text: &str, code: usize) -> u64 {
     // SAFETY: the text is a slice with its length; the shelf is a static's, which nothing else uses while the call runs.
-    unsafe { ffi::maluwesi_shelf_add(SHELF.0.get().cast(), SHELF_LEN, code, CARGO, text.as_ptr(), text.len()) }
+    unsafe { ffi::maluwesi_shelf_add(SHELF.0.get().cast(), SHELF_LEN, code as u16, CARGO, text.as_ptr(), text.len()) }
 }
 
-/// The first act fills the shelf.
+/// The first act on a text fills the shelf.
 fn fill(text: &str) {
-    // SAFETY: one thread runs the acts, and no call runs now.
-    let shelf: &[u8; SHELF_LEN] = unsafe { &*SHELF.0.get() };
-    if shelf[SHELF_LEN - 97] == 0 {
-        (0..ENTRIES).for_each(|code| assert_eq!(add(text, code as u16), 0));
+    let place = text.as_ptr() as usize;
+    if ON_SHELF.swap(place, Ordering::Relaxed) != place {
+        // SAFETY: the shelf is a static's, which nothing else uses while the call runs.
+        assert_eq!(unsafe { ffi::maluwesi_shelf_clear(SHELF.0.get().cast(), SHELF_LEN) }, 0);
+        text.lines().enumerate().for_each(|(code, line)| assert_eq!(add(line, code), 0));
     }
 }
 
-fn fits_first(text: &str) -> Option<u64> {
+type Call = unsafe extern "C" fn(*const u8, usize, *const u8, usize, *mut u8, *mut u16) -> u64;
+
+fn ask(call: Call, text: &str) -> Option<u64> {
     fill(text);
-    set_count(ENTRIES);
     let (mut found, mut code) = (0, 0);
     // SAFETY: the version is a slice with its length; the shelf is a static's, which nothing else uses while the call runs; the answers are locals.
-    let refusal = unsafe {
-        ffi::maluwesi_shelf_first_fit(
-            SHELF.0.get().cast(),
-            SHELF_LEN,
-            VERSION.as_ptr(),
-            VERSION.len(),
-            &mut found,
-            &mut code,
-        )
-    };
+    let refusal =
+        unsafe { call(SHELF.0.get().cast(), SHELF_LEN, VERSION.as_ptr(), VERSION.len(), &mut found, &mut code) };
     (refusal == 0).then_some(u64::from(found))
 }
 
+fn fits_first(text: &str) -> Option<u64> {
+    ask(ffi::maluwesi_shelf_first_fit, text)
+}
+
+fn looks_up(text: &str) -> Option<u64> {
+    ask(ffi::maluwesi_shelf_lookup, text)
+}
+
+/// The count is one less before, and the last line's place is written again.
 fn adds(text: &str) -> Option<u64> {
     fill(text);
-    set_count(ENTRIES - 1);
-    (add(text, ENTRIES as u16 - 1) == 0).then_some(0)
+    // SAFETY: one thread runs the acts, and no call runs now.
+    let shelf: &mut [u8; SHELF_LEN] = unsafe { &mut *SHELF.0.get() };
+    let last = usize::from(u16::from_le_bytes([shelf[0], shelf[1]])) - 1;
+    shelf[..2].copy_from_slice(&(last as u16).to_le_bytes());
+    (add(&text[text.len() - ENTRY_LEN..], last) == 0).then_some(0)
 }

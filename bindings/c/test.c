@@ -236,23 +236,24 @@ static void check_counts(void)
 
 /* It has three comparator rows and three identifier rows. */
 #define ROWS_TEXT "1.2.3-a.7 - 2.x||=4.5.6-18446744073709551616"
+#define ROWS_WORDS (3 * MALUWESI_COMPARATOR_WORDS)
 
 static void check_rows(void)
 {
     static const char text[] = ROWS_TEXT;
-    static const uint64_t words[] = {0, 3, 1, 2, 3, 2, 0, 0, 3, 0, 0, 0, 1, 4, 4, 5, 6, 1};
+    static const uint64_t words[] = {0, 3, 1, 2, 3, 2, 0, 15, 0, 0, 3, 0, 0, 0, 0, 15, 1, 4, 4, 5, 6, 1, 17, 27};
     static const uint64_t ids[] = {1, 6, 1, 0, 7, 0, 1, 24, 20};
 
-    struct reading exact = read_into(text, MALUWESI_NPM, 18, 9);
+    struct reading exact = read_into(text, MALUWESI_NPM, ROWS_WORDS, 9);
     CHECK(exact.number == MALUWESI_OK);
     CHECK(counts_are(&exact, 2, 3, 3));
-    CHECK(holds_words(exact.words, words, 18));
+    CHECK(holds_words(exact.words, words, ROWS_WORDS));
     CHECK(holds_words(exact.ids, ids, 9));
 
-    struct reading roomy = read_into(text, MALUWESI_NPM, 25, 13);
+    struct reading roomy = read_into(text, MALUWESI_NPM, ROWS_WORDS + 7, 13);
     CHECK(roomy.number == MALUWESI_OK);
     CHECK(counts_are(&roomy, 2, 3, 3));
-    CHECK(holds_words(roomy.words, words, 18));
+    CHECK(holds_words(roomy.words, words, ROWS_WORDS));
     CHECK(holds_words(roomy.ids, ids, 9));
 }
 
@@ -268,11 +269,11 @@ static void check_short_rows(size_t words, size_t ids, uint64_t number)
 
 static void check_all_short_rows(void)
 {
-    check_short_rows(17, 9, MALUWESI_COMPARATORS_SHORT);
+    check_short_rows(ROWS_WORDS - 1, 9, MALUWESI_COMPARATORS_SHORT);
     check_short_rows(0, 9, MALUWESI_COMPARATORS_SHORT);
-    check_short_rows(17, 8, MALUWESI_COMPARATORS_SHORT);
-    check_short_rows(18, 8, MALUWESI_IDENTIFIERS_SHORT);
-    check_short_rows(23, 0, MALUWESI_IDENTIFIERS_SHORT);
+    check_short_rows(ROWS_WORDS - 1, 8, MALUWESI_COMPARATORS_SHORT);
+    check_short_rows(ROWS_WORDS, 8, MALUWESI_IDENTIFIERS_SHORT);
+    check_short_rows(ROWS_WORDS + 7, 0, MALUWESI_IDENTIFIERS_SHORT);
 }
 
 static void check_part(size_t place, size_t len, size_t from, size_t size)
@@ -364,16 +365,17 @@ static void check_verdicts(void)
 /* Its normal text, of 18 bytes, has two comparator rows and two identifier rows. */
 #define REREAD_TEXT "1.2.3-a.7 - 2"
 #define REREAD_NORMAL ">=1.2.3-a.7 <3.0.0"
+#define REREAD_WORDS (2 * MALUWESI_COMPARATOR_WORDS)
 
 static void check_reread(void)
 {
     static const char text[] = REREAD_TEXT;
-    static const uint64_t words[] = {0, 3, 1, 2, 3, 2, 0, 0, 3, 0, 0, 0};
+    static const uint64_t words[] = {0, 3, 1, 2, 3, 2, 0, 11, 0, 0, 3, 0, 0, 0, 12, 6};
     static const uint64_t ids[] = {1, 8, 1, 0, 7, 0};
     size_t len = strlen(REREAD_NORMAL);
     struct {
         size_t lent, words, ids;
-    } lent[] = {{len, 12, 6}, {ROOM - 2, 17, 8}};
+    } lent[] = {{len, REREAD_WORDS, 6}, {ROOM - 2, REREAD_WORDS + 7, 8}};
     for (size_t i = 0; i < 2; i++) {
         for (uint8_t other = 0; other < 2; other++) {
             struct reread r = reread_into(text, MALUWESI_CARGO, other, lent[i].lent, lent[i].words, lent[i].ids);
@@ -381,7 +383,7 @@ static void check_reread(void)
             CHECK(r.normal == 0);
             CHECK(counts_are(&r.reading, 1, 2, 2));
             CHECK(holds_bytes(r.out, REREAD_NORMAL));
-            CHECK(holds_words(r.reading.words, words, 12));
+            CHECK(holds_words(r.reading.words, words, REREAD_WORDS));
             CHECK(holds_words(r.reading.ids, ids, 6));
         }
     }
@@ -402,10 +404,10 @@ static void check_short_reread(size_t lent, size_t words, size_t ids, uint8_t ot
 static void check_short_rereads(void)
 {
     size_t len = strlen(REREAD_NORMAL);
-    check_short_reread(len - 1, 11, 5, MALUWESI_NPM, MALUWESI_BYTES_SHORT, 0);
-    check_short_reread(len, 11, 5, MALUWESI_NPM, MALUWESI_COMPARATORS_SHORT, 1);
-    check_short_reread(len, 12, 5, MALUWESI_NPM, MALUWESI_IDENTIFIERS_SHORT, 1);
-    check_short_reread(len, 12, 6, 2, MALUWESI_NO_MODE, 0);
+    check_short_reread(len - 1, REREAD_WORDS - 1, 5, MALUWESI_NPM, MALUWESI_BYTES_SHORT, 0);
+    check_short_reread(len, REREAD_WORDS - 1, 5, MALUWESI_NPM, MALUWESI_COMPARATORS_SHORT, 1);
+    check_short_reread(len, REREAD_WORDS, 5, MALUWESI_NPM, MALUWESI_IDENTIFIERS_SHORT, 1);
+    check_short_reread(len, REREAD_WORDS, 6, 2, MALUWESI_NO_MODE, 0);
 }
 
 /* A text that is accepted, and whose normal text is too long to be read. */

@@ -5,6 +5,7 @@ mod admission;
 mod answer;
 mod calls;
 mod compare;
+mod items;
 mod partials;
 mod pest_calls;
 mod random;

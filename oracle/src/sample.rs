@@ -3,7 +3,7 @@
 //! what is printed, is said at the head of crates/replay/src/main.rt.
 
 use crate::admission;
-use crate::answer::Answer;
+use crate::answer::{Answer, COMPARATOR_WORDS};
 use crate::calls::Counts;
 use crate::random::{damaged, range_set, Numbers, Random};
 use crate::reference::{verdict, Verdict, LONGEST_TEXT, MODES};
@@ -266,7 +266,7 @@ impl Sample {
         for size in [LONGEST_TEXT, LONGEST_TEXT + 1] {
             let blanks = Text { given: "  ".to_string(), size };
             self.normal_text(&blanks, [SOME, SOME]);
-            self.reading(&blanks, 6, 3);
+            self.reading(&blanks, COMPARATOR_WORDS, 3);
             self.admission(&blanks, &Text::whole("0.0.0"));
         }
         let version = Text { given: "1.2.3-aa".to_string(), size: LONGEST_TEXT + 1 };

@@ -1,12 +1,12 @@
 //! The library's shelf beside the model of it (shelf_model.rs): random calls on memory that calls built and on memory
-//! that none did. Of each call the answer and every byte is compared. And the rows of crates/shelf_edges beside the
-//! model.
+//! that none did. Of each call the answer and every byte is compared, and on a shelf that calls built from an empty
+//! one the lookup with first fit. And the rows of crates/shelf_edges beside the model.
 
 use crate::admission::{random_range, version_near};
 use crate::random::{damaged, noise, number, Random};
 use crate::report::{shown, Differences};
 use crate::shelf_calls as library;
-use crate::shelf_model::{self as model, Readings, ENTRIES, ENTRY, SIZE, TEXT};
+use crate::shelf_model::{self as model, Readings, ENTRIES, ENTRY, KEPT, KEPT_AT, SIZE, TEXT};
 use crate::shelf_rows;
 use std::collections::BTreeMap;
 use std::process::ExitCode;
@@ -28,6 +28,11 @@ struct Tally {
     /// How often a call had an answer: its refusal's number, or 0.
     answers: BTreeMap<(&'static str, u64), u64>,
     none_fits: u64,
+    none_looked_up: u64,
+    /// Lookups on a shelf that calls built, each compared with first fit; and those on other memory where first fit
+    /// has another answer.
+    on_built: u64,
+    apart: u64,
     differences: Differences,
 }
 
@@ -39,7 +44,7 @@ pub fn compare_all(seed: u64) -> ExitCode {
     while tally.calls < CALLS {
         let stock = stock(&mut random, &mut readings);
         for _ in 0..100 {
-            let memory = random_memory(&mut random, &stock);
+            let memory = random_memory(&mut random, &mut readings, &stock);
             compare_calls(&mut random, &mut readings, &stock, memory, &mut tally);
         }
         readings = Readings::default();
@@ -47,7 +52,9 @@ pub fn compare_all(seed: u64) -> ExitCode {
     for ((call, number), count) in &tally.answers {
         println!("{call:>10} {number:>4} {count:>9}");
     }
-    println!("none fits in {} answers of first fit", tally.none_fits);
+    println!("none fits in {} answers of first fit and {} of the lookup", tally.none_fits, tally.none_looked_up);
+    println!("{} lookups on shelves that calls built, compared with first fit", tally.on_built);
+    println!("{} lookups on other memory where first fit has another answer", tally.apart);
     let (rows, row_differences) = shelf_rows::compare();
     println!("{rows} rows of shelf_edges: {} differences", row_differences.count);
     print!("{}{row_differences}", tally.differences);
@@ -100,22 +107,23 @@ fn random_code(random: &mut Random) -> u16 {
 
 // ---- memory
 
-fn random_memory(random: &mut Random, stock: &Stock) -> Vec<u8> {
+fn random_memory(random: &mut Random, readings: &mut Readings, stock: &Stock) -> Vec<u8> {
     match random.below(10) {
-        0 => (0..[0, 1, 2, ENTRY, SIZE - 1, SIZE + 1][random.below(6)]).map(|_| random.byte()).collect(),
+        0 => (0..[0, 1, 2, ENTRY, KEPT_AT, SIZE - 1, SIZE + 1][random.below(7)]).map(|_| random.byte()).collect(),
         1 => (0..SIZE).map(|_| random.byte()).collect(),
         2..=5 => vec![0; SIZE],
-        _ => made_memory(random, stock),
+        _ => made_memory(random, readings, stock),
     }
 }
 
 /// Entries as no call would have made them, among others that one would have.
-fn made_memory(random: &mut Random, stock: &Stock) -> Vec<u8> {
+fn made_memory(random: &mut Random, readings: &mut Readings, stock: &Stock) -> Vec<u8> {
     let behind = if random.one_in(2) { 0 } else { random.byte() };
     let mut memory = vec![behind; SIZE];
     let count = [random.below(8), random.below(ENTRIES + 1), ENTRIES, ENTRIES + 1][random.below(4)];
     memory[..2].copy_from_slice(&(count as u16).to_le_bytes());
-    for entry in memory[2..].chunks_exact_mut(ENTRY).take(count) {
+    let (entries, kept) = memory[2..].split_at_mut(KEPT_AT - 2);
+    for (entry, kept) in entries.chunks_exact_mut(ENTRY).zip(kept.chunks_exact_mut(KEPT)).take(count) {
         let text = &stock.texts[random.below(stock.texts.len())];
         let length = text.len().min(TEXT);
         let code = match random.one_in(2) {
@@ -126,8 +134,24 @@ fn made_memory(random: &mut Random, stock: &Stock) -> Vec<u8> {
         entry[2] = [0, 1, 1, 2, 255][random.below(5)];
         entry[3] = if random.one_in(8) { random.byte() } else { length as u8 };
         entry[4..4 + length].copy_from_slice(&text[..length]);
+        kept.copy_from_slice(&made_triples(random, readings, text));
     }
     memory
+}
+
+/// The text's own triples, or with one byte changed; triples that enclose all; other bytes.
+fn made_triples(random: &mut Random, readings: &mut Readings, text: &[u8]) -> [u8; KEPT] {
+    let mut kept = match readings.of(text, random.below(2)) {
+        Ok(set) if !random.one_in(4) => model::kept(set),
+        _ => std::array::from_fn(|i| if i < KEPT / 2 { 0 } else { 255 }),
+    };
+    match random.below(8) {
+        0 => kept.fill_with(|| random.byte()),
+        1 | 2 => kept[random.below(KEPT)] = random.byte(),
+        3 => kept[8 * random.below(6)] = random.below(4) as u8,
+        _ => {}
+    }
+    kept
 }
 
 // ---- the calls
@@ -135,10 +159,12 @@ fn made_memory(random: &mut Random, stock: &Stock) -> Vec<u8> {
 fn compare_calls(random: &mut Random, readings: &mut Readings, stock: &Stock, memory: Vec<u8>, tally: &mut Tally) {
     let mut here = memory.clone();
     let mut expected = memory;
+    let mut built = expected == [0; SIZE];
     for _ in 0..CALLS_ON_A_MEMORY {
         let (call, there, answer) = match random.below(100) {
             0 => {
                 let answer = refusal(model::clear(&mut expected));
+                built |= answer == 0;
                 ("clear", library::clear(&mut here), answer)
             }
             1..=44 => {
@@ -161,14 +187,22 @@ fn compare_calls(random: &mut Random, readings: &mut Readings, stock: &Stock, me
                 let answer = listed.map_or_else(|number| number, |_| 0);
                 ("find", if same { number } else { u64::MAX }, answer)
             }
-            _ => {
+            80..=89 => {
                 let version = &stock.versions[random.below(stock.versions.len())];
                 let fit = model::first_fit(&expected, version, readings);
-                let (number, found, code) = library::first_fit(&here, version);
-                let same = (found, code) == fit.map_or((0, 0), |fit| fit.map_or((0, 0), |code| (1, code)));
                 tally.none_fits += u64::from(fit == Ok(None));
-                let answer = fit.map_or_else(|number| number, |_| 0);
-                ("first fit", if same { number } else { u64::MAX }, answer)
+                ("first fit", fit_number(library::first_fit(&here, version), fit), refused_fit(fit))
+            }
+            _ => {
+                let version = &stock.versions[random.below(stock.versions.len())];
+                let fit = model::lookup(&expected, version, readings);
+                let looked_up = library::lookup(&here, version);
+                let same = looked_up == library::first_fit(&here, version);
+                tally.none_looked_up += u64::from(fit == Ok(None));
+                tally.on_built += u64::from(built);
+                tally.apart += u64::from(!built && !same);
+                let number = if built && !same { u64::MAX } else { fit_number(looked_up, fit) };
+                ("lookup", number, refused_fit(fit))
             }
         };
         tally.calls += 1;
@@ -178,6 +212,19 @@ fn compare_calls(random: &mut Random, readings: &mut Readings, stock: &Stock, me
             here.clone_from(&expected);
         }
     }
+}
+
+/// The number of an answer, if what it found is what was expected.
+fn fit_number((number, found, code): (u64, u8, u16), expected: Result<Option<u16>, u64>) -> u64 {
+    let same = (found, code) == expected.map_or((0, 0), |fit| fit.map_or((0, 0), |code| (1, code)));
+    match same {
+        true => number,
+        false => u64::MAX,
+    }
+}
+
+fn refused_fit(fit: Result<Option<u16>, u64>) -> u64 {
+    fit.map_or_else(|number| number, |_| 0)
 }
 
 fn refusal(result: Result<(), u64>) -> u64 {

@@ -24,7 +24,22 @@ pub fn find(shelf: &[u8], code: u16) -> (u64, usize, usize) {
 pub fn first_fit(shelf: &[u8], version: &[u8]) -> (u64, u8, u16) {
     let (mut found, mut code) = (0x5A, 0x5A5A);
     let number = unsafe {
-        ffi::maluwesi_shelf_first_fit(shelf.as_ptr(), shelf.len(), version.as_ptr(), version.len(), &mut found, &mut code)
+        ffi::maluwesi_shelf_first_fit(
+            shelf.as_ptr(),
+            shelf.len(),
+            version.as_ptr(),
+            version.len(),
+            &mut found,
+            &mut code,
+        )
+    };
+    (number, found, code)
+}
+
+pub fn lookup(shelf: &[u8], version: &[u8]) -> (u64, u8, u16) {
+    let (mut found, mut code) = (0x5A, 0x5A5A);
+    let number = unsafe {
+        ffi::maluwesi_shelf_lookup(shelf.as_ptr(), shelf.len(), version.as_ptr(), version.len(), &mut found, &mut code)
     };
     (number, found, code)
 }

@@ -6,7 +6,7 @@ use crate::shelf_model::{self as model, Readings};
 use std::fs;
 
 const FOLDER: &str = concat!(env!("CARGO_MANIFEST_DIR"), "/../crates/shelf_edges");
-const MEMORY: usize = 25_603;
+const MEMORY: usize = 37_891;
 
 struct Row<'a> {
     line: &'a [u8],
@@ -69,15 +69,20 @@ fn answered(call: usize, shelf: &mut [u8], code: usize, mode: u8, text: &[u8], r
             Ok((place, length)) => vec![0, place as u64, length as u64],
             Err(number) => vec![number, 0, 0],
         },
-        5 => match model::first_fit(shelf, text, readings) {
-            Ok(Some(found)) => vec![0, 1, u64::from(found)],
-            Ok(None) => vec![0, 0, 0],
-            Err(number) => vec![number, 0, 0],
-        },
+        5 => fit(model::first_fit(shelf, text, readings)),
+        7 => fit(model::lookup(shelf, text, readings)),
         _ => {
             shelf[code] = mode;
             vec![]
         }
+    }
+}
+
+fn fit(answer: Result<Option<u16>, u64>) -> Vec<u64> {
+    match answer {
+        Ok(Some(found)) => vec![0, 1, u64::from(found)],
+        Ok(None) => vec![0, 0, 0],
+        Err(number) => vec![number, 0, 0],
     }
 }
 

@@ -6,10 +6,10 @@
 use crate::ffi;
 use crate::{Compat, Refusal, RereadRefusal};
 
-pub const COMPARATOR_WORDS: usize = 6;
+pub const COMPARATOR_WORDS: usize = 8;
 pub const IDENTIFIER_WORDS: usize = 3;
 
-/// Range, operator, major, minor, patch, number of identifiers.
+/// Range, operator, major, minor, patch, number of identifiers, place and length of the item.
 pub type ComparatorRow = [u64; COMPARATOR_WORDS];
 /// Kind, number or place, 0 or length.
 pub type IdentifierRow = [u64; IDENTIFIER_WORDS];

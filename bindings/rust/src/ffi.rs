@@ -122,4 +122,13 @@ extern "C" {
         found: *mut u8,
         code: *mut u16,
     ) -> u64;
+
+    pub fn maluwesi_shelf_lookup(
+        shelf: *const u8,
+        shelf_len: usize,
+        version: *const u8,
+        version_len: usize,
+        found: *mut u8,
+        code: *mut u16,
+    ) -> u64;
 }

@@ -1,8 +1,8 @@
 //! Version ranges, read by a proved reader under the names of the crate semver-parser 0.10.3.
 //!
 //! [`RangeSet::parse`] gives what that crate gives. Where it would panic or wrap, and for a text
-//! longer than 65,535 bytes, a [`Refusal`] comes back. [`normal_text`], [`read_normal_text`],
-//! [`equal_readings`], [`admits`] and [`Shelf`] are added.
+//! longer than 65,535 bytes, a [`Refusal`] comes back. [`RangeSet::sources`], [`normal_text`],
+//! [`read_normal_text`], [`equal_readings`], [`admits`] and [`Shelf`] are added.
 //!
 //! ```
 //! use maluwesi::{Compat, Op, RangeSet, Refusal};

@@ -42,7 +42,7 @@ pub(crate) fn fill(
     identifiers: &[IdentifierRow],
 ) {
     let mut identifiers = identifiers.iter().map(|row| identifier(text, row));
-    for &[range, op, major, minor, patch, count] in comparators {
+    for &[range, op, major, minor, patch, count, ..] in comparators {
         ranges[size(range)].comparator_set.push(Comparator {
             op: operator(op),
             major,
@@ -76,6 +76,6 @@ fn identifier(text: &[u8], row: &IdentifierRow) -> Identifier {
 
 /// A word that numbers a range, counts identifiers, or is a place in a text or a length: none
 /// exceeds the text's own length.
-fn size(word: u64) -> usize {
+pub(crate) fn size(word: u64) -> usize {
     usize::try_from(word).expect("the library writes no place behind the text")
 }

@@ -1,5 +1,5 @@
 use crate::calls;
-use crate::range;
+use crate::range::{self, size};
 use crate::{Range, Refusal};
 use std::str::FromStr;
 
@@ -25,9 +25,29 @@ impl RangeSet {
     /// [`RangeSet::parse`] for bytes that need not be UTF-8. The grammar has ASCII bytes only, so
     /// a text with others is refused with [`Refusal::NoReading`], unless it is too long.
     pub fn parse_bytes(input: &[u8], compat: Compat) -> Result<Self, Refusal> {
-        let mut rows = Rows::new(calls::count(input, compat)?);
-        calls::read(input, compat, &mut rows.comparators, &mut rows.identifiers)?;
+        let rows = Rows::read(input, compat)?;
         Ok(rows.range_set(input, compat))
+    }
+
+    /// The words that each comparator came from: for each range, and each of its comparators, in
+    /// the order of `comparator_set`, the item as it stands in the input, with its operator. A
+    /// hyphen range is one item; the item of an empty range is empty.
+    ///
+    /// ```
+    /// use maluwesi::{Compat, RangeSet};
+    ///
+    /// let sources = RangeSet::sources("^1.2.3, <= 1.4 || 1 - 2", Compat::Npm)?;
+    /// assert_eq!(sources[0], ["^1.2.3", "^1.2.3", "<= 1.4"]);
+    /// assert_eq!(sources[1], ["1 - 2", "1 - 2"]);
+    /// # Ok::<(), maluwesi::Refusal>(())
+    /// ```
+    pub fn sources(input: &str, compat: Compat) -> Result<Vec<Vec<&str>>, Refusal> {
+        let rows = Rows::read(input.as_bytes(), compat)?;
+        let mut sources = vec![Vec::new(); rows.ranges];
+        for &[range, .., place, len] in &rows.comparators {
+            sources[size(range)].push(&input[size(place)..][..size(len)]);
+        }
+        Ok(sources)
     }
 }
 
@@ -39,6 +59,12 @@ pub(crate) struct Rows {
 }
 
 impl Rows {
+    fn read(text: &[u8], compat: Compat) -> Result<Rows, Refusal> {
+        let mut rows = Rows::new(calls::count(text, compat)?);
+        calls::read(text, compat, &mut rows.comparators, &mut rows.identifiers)?;
+        Ok(rows)
+    }
+
     /// Zeros, as many as the counts say.
     pub(crate) fn new(counts: calls::Counts) -> Rows {
         Rows {

@@ -6,9 +6,9 @@ const ENTRY_BYTES: usize = 100;
 const TEXT_AT: usize = 4;
 const TEXT_BYTES: usize = 96;
 
-/// At most 256 entries, each a part code, a mode and a range text of at most 96 bytes, in 25,602
-/// bytes: the count, then the entries in the order in which they were added (docs/USERS.md has the
-/// layout).
+/// At most 256 entries, each a part code, a mode and a range text of at most 96 bytes, in 37,890
+/// bytes: the count, the entries in the order in which they were added, and in the same order the
+/// lowest and the highest triple of each, by which the lookup goes (docs/USERS.md has the layout).
 ///
 /// ```
 /// use maluwesi::{Compat, Refusal, Shelf};
@@ -16,7 +16,7 @@ const TEXT_BYTES: usize = 96;
 /// let mut shelf = Shelf::new();
 /// shelf.add(7, Compat::Npm, "^1.2.3")?;
 /// shelf.add(258, Compat::Cargo, "2 || 3")?;
-/// assert_eq!(shelf.first_fit("3.1.4")?, Some(258));
+/// assert_eq!(shelf.lookup("3.1.4")?, Some(258));
 /// assert_eq!(shelf.get(7), Some(&b"^1.2.3"[..]));
 /// assert_eq!(shelf.add(7, Compat::Npm, "*"), Err(Refusal::Code));
 /// # Ok::<(), Refusal>(())
@@ -37,7 +37,8 @@ impl Shelf {
     }
 
     /// The shelf that these bytes are, or [`Refusal::NotShelf`]. Entries that no call would have
-    /// made are kept as they stand, and fit no version.
+    /// made are kept as they stand, and fit no version; so are their triples, as which
+    /// [`Shelf::lookup`] takes them.
     pub fn from_bytes(bytes: &[u8]) -> Result<Shelf, Refusal> {
         let shelf = Shelf {
             bytes: bytes.into(),
@@ -75,9 +76,15 @@ impl Shelf {
         Some(&self.bytes[place])
     }
 
-    /// The code of the first entry whose text admits the version.
+    /// The code of the first entry whose text admits the version; every entry is tried.
     pub fn first_fit(&self, version: &str) -> Result<Option<u16>, Refusal> {
         calls::first_fit(&self.bytes, version.as_bytes())
+    }
+
+    /// The same for a shelf that calls built, without reading them all: only an entry whose
+    /// triples enclose the version's is tried.
+    pub fn lookup(&self, version: &str) -> Result<Option<u16>, Refusal> {
+        calls::lookup(&self.bytes, version.as_bytes())
     }
 
     pub fn len(&self) -> usize {

@@ -5,7 +5,7 @@ use crate::calls::{accepted, mode};
 use crate::{Compat, Refusal};
 use std::ops::Range;
 
-pub const SHELF_BYTES: usize = 25_602;
+pub const SHELF_BYTES: usize = 37_890;
 
 pub fn clear(shelf: &mut [u8]) -> Result<(), Refusal> {
     // SAFETY: the shelf is an exclusive slice with its length.
@@ -46,6 +46,23 @@ pub fn first_fit(shelf: &[u8], version: &[u8]) -> Result<Option<u16>, Refusal> {
     // are locals.
     let number = unsafe {
         ffi::maluwesi_shelf_first_fit(
+            shelf.as_ptr(),
+            shelf.len(),
+            version.as_ptr(),
+            version.len(),
+            &mut found,
+            &mut code,
+        )
+    };
+    accepted(number).map(|()| (found == 1).then_some(code))
+}
+
+pub fn lookup(shelf: &[u8], version: &[u8]) -> Result<Option<u16>, Refusal> {
+    let (mut found, mut code) = (0, 0);
+    // SAFETY: shelf and version are slices, each with its length, and only read; found and code
+    // are locals.
+    let number = unsafe {
+        ffi::maluwesi_shelf_lookup(
             shelf.as_ptr(),
             shelf.len(),
             version.as_ptr(),

@@ -1,6 +1,7 @@
 use maluwesi::{Compat, Entry, Refusal, Shelf};
 
 const ENTRY: usize = 100;
+const KEPT: usize = 2 + 256 * ENTRY;
 
 fn two() -> Shelf {
     let mut shelf = Shelf::new();
@@ -52,6 +53,45 @@ fn first_fit_takes_the_first() {
 }
 
 #[test]
+fn a_lookup_answers_as_first_fit() {
+    let mut shelf = two();
+    shelf.add(9, Compat::Npm, "<0.0.0 || 5 || 7").unwrap();
+    shelf.add(10, Compat::Npm, ">2 <1").unwrap();
+    let versions =
+        "0.0.0-a 0.0.0 1.2.2 1.2.3-a 1.2.3 1.9.0 2.0.0-rc.1 2.0.0 3.0.0-a 3.0.0 5.1.0 6.0.0";
+    let others = "7.9.9 8.0.0 3.0 18446744073709551616.0.0";
+    for version in versions.split(' ').chain(others.split(' ')) {
+        assert_eq!(shelf.lookup(version), shelf.first_fit(version), "{version}");
+    }
+    assert_eq!(shelf.lookup("2.0.0-rc.1"), Ok(Some(7)));
+    assert_eq!(shelf.lookup("0.0.0-a"), Ok(Some(9)));
+    assert_eq!(shelf.lookup("6.0.0"), Ok(None));
+    shelf.remove(7).unwrap();
+    assert_eq!(shelf.lookup("2.9.0"), Ok(Some(258)));
+    assert_eq!(shelf.lookup("1.9.0"), Ok(None));
+}
+
+#[test]
+fn triples_stand_behind_the_entries() {
+    let shelf = two();
+    let words: Vec<_> = shelf.as_bytes()[KEPT..]
+        .chunks_exact(8)
+        .map(|bytes| u64::from_le_bytes(bytes.try_into().unwrap()))
+        .collect();
+    assert_eq!(words[..12], [1, 2, 3, 2, 0, 0, 2, 0, 0, 3, 0, 0]);
+    assert!(words[12..].iter().all(|&word| word == 0));
+}
+
+#[test]
+fn triples_that_no_call_wrote_are_taken_as_they_stand() {
+    let mut bytes = two().as_bytes().to_vec();
+    bytes[KEPT] = 2;
+    let shelf = Shelf::from_bytes(&bytes).ok().unwrap();
+    assert_eq!(shelf.first_fit("1.9.0"), Ok(Some(7)));
+    assert_eq!(shelf.lookup("1.9.0"), Ok(None));
+}
+
+#[test]
 fn remove_closes_the_gap() {
     let mut shelf = two();
     shelf.remove(7).unwrap();
@@ -94,6 +134,7 @@ fn a_refused_add_changes_nothing() {
 fn bytes_that_are_no_shelf_are_refused() {
     let mut bytes = vec![0; Shelf::BYTES];
     assert!(Shelf::from_bytes(&bytes[1..]) == Err(Refusal::NotShelf));
+    assert!(Shelf::from_bytes(&bytes[..KEPT]) == Err(Refusal::NotShelf));
     bytes[0] = 1;
     bytes[1] = 1;
     assert!(Shelf::from_bytes(&bytes) == Err(Refusal::NotShelf));
@@ -110,6 +151,8 @@ fn entries_that_no_call_makes_fit_nothing() {
     let shelf = Shelf::from_bytes(&bytes).ok().unwrap();
     assert_eq!(shelf.first_fit("1.9.0"), Ok(None));
     assert_eq!(shelf.first_fit("2.9.0"), Ok(None));
+    assert_eq!(shelf.lookup("1.9.0"), Ok(None));
+    assert_eq!(shelf.lookup("2.9.0"), Ok(None));
     let entries: Vec<_> = shelf.iter().collect();
     assert_eq!(entries[0].compat, None);
     assert_eq!(entries[1].text, b"");

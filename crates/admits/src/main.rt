@@ -7,8 +7,8 @@ ghost use Rattle.rules.specs.Admits.{verdictRoom};
 ghost use Rattle.range.specs.Views.{compatOf};
 ghost use Rattle.passes.specs.Views.{Accepts};
 use range::Compat;
+use range::Mode;
 use streams::Input;
-use streams::same_word;
 use verdicts::hold;
 use verdicts::put_refused_range;
 use verdicts::put_verdict;
@@ -211,35 +211,16 @@ fn run(compat: Compat, range: &[u8]) {
     streams::print(b"admits", &out[..len]);
 }
 
-// A range that is over 65,536 bytes is refused by its first 65,536, as every text of so many.
 fn run_mode(compat: Compat) {
     let mut range = io::large_buffer();
-    let n = os::arg(2, &mut range);
-    if os::errno() == libc::ENAMETOOLONG {
-        run(compat, &range);
-        return;
-    }
+    let n = arguments::range(&mut range);
     run(compat, &range[..n]);
 }
 
-fn usage() {
-    streams::put_usage(b"admits", b"admits cargo|npm RANGE < VERSIONS\n");
-}
-
 fn main() {
-    let mut mode = [0u8; 8];
-    let n = os::arg(1, &mut mode);
-    if os::arg_count() != 3 {
-        usage();
-        return;
+    let mode = arguments::mode();
+    match mode {
+        Mode::Compat(compat) => run_mode(compat),
+        Mode::Nothing => streams::put_usage(b"admits", b"admits cargo|npm RANGE < VERSIONS\n"),
     }
-    if same_word(&mode[..n], b"cargo") {
-        run_mode(Compat::Cargo);
-        return;
-    }
-    if same_word(&mode[..n], b"npm") {
-        run_mode(Compat::Npm);
-        return;
-    }
-    usage();
 }

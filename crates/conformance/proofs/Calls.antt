@@ -9,10 +9,10 @@ use lib.Seq.{take-append-seam}
 use Rattle.rules.specs.Syntax.{Identifier, number, text}
 use Rattle.rules.specs.Expansion as E
 use Rattle.rules.specs.Expansion.{Comparator, comparator, Reading}
-use Rattle.rules.specs.Rows.{comparatorWords, identifierWords, placeless, placelessComparator, placelessReading}
+use Rattle.rules.specs.Rows.{comparatorWidth, comparatorWords, identifierWords, placeless, placelessComparator, placelessReading}
 use Rattle.rules.specs.Answers.{Answer, accepted, refused, longest, reading, comparatorRows, identifierRows, readingCall, Outcome, readingOutcome, written, comparatorWordsAfter, identifierWordsAfter, andThen}
 use Rattle.rules.specs.Equality.{handedBack}
-use Rattle.rules.specs.Exported.{modeOf, under}
+use Rattle.rules.specs.Exported.{modeOf, under, afterMode, wordsUnder}
 use Rattle.rules.proofs.Accepted.{Decided, long, underivable, large, raised, accepts, decided}
 use Rattle.rules.proofs.ReadBackLaws.{read-back}
 use Rattle.rules.proofs.ReadingCall.{call-refused, call-accepts}
@@ -60,13 +60,13 @@ taken f a old n e = rw (← e) (take-append-seam (f a) (drop (length (f a)) old)
 module _ (c : Compat) (t words ids : List ℕ) where
   -- what is handed back where the call's answer is a
   abbrev handedOf : Answer Reading → Returned
-  handedOf a = handed t (readingOutcome a) (comparatorWordsAfter a words) (identifierWordsAfter t a ids)
+  handedOf a = handed t (readingOutcome a) (comparatorWordsAfter (mode c) t a words) (identifierWordsAfter t a ids)
 
   handed-accepted : (rs : Reading) → reading (mode c) t ≡ accepted rs → handedOf (accepted rs) ≡ seen (accepted rs)
   unfolding handed answerIn handedBack readingOutcome comparatorWordsAfter identifierWordsAfter
   handed-accepted rs e =
       ap (λ x. seen (accepted x))
-      (rw (taken comparatorWords rs words (6 * comparatorRows rs) (words-length rs), taken (identifierWords (length t)) rs ids (3 * identifierRows rs) (names-length (length t) rs))
+      (rw (taken (λ rs. comparatorWords (mode c) t) rs words (comparatorWidth * comparatorRows rs) (words-length (mode c) t rs e), taken (identifierWords (length t)) rs ids (3 * identifierRows rs) (names-length (length t) rs))
       (read-back (mode c) t rs e))
 
   handed-parse : length t ≤ longest → RowsFit (parse c t) (length words) (length ids) → parse c t ≡ handedOf (readingCall (mode c) t (length words) (length ids))
@@ -95,7 +95,7 @@ module _ (c : Compat) (t words ids : List ℕ) where
 
   -- by the three equations of its promise
   call-parse : (a : Answer Reading) (o : Outcome) (words′ ids′ : List ℕ) → a ≡ readingCall (mode c) t (length words) (length ids) → o ≡ readingOutcome a
-      → words′ ≡ comparatorWordsAfter a words → ids′ ≡ identifierWordsAfter t a ids → length t ≤ longest → RowsFit (parse c t) (length words) (length ids)
+      → words′ ≡ comparatorWordsAfter (mode c) t a words → ids′ ≡ identifierWordsAfter t a ids → length t ≤ longest → RowsFit (parse c t) (length words) (length ids)
       → parse c t ≡ handed t o words′ ids′
   call-parse a o words′ ids′ e p q r short fit = rw (p, q, r, e) (handed-parse short fit)
 
@@ -106,11 +106,17 @@ pub read-parse : (m : Compat) (κs : _) (args : _) (r : _) (exit : _) → Read.P
     → parse m (now (args .0)) ≡ handed (now (args .0)) (outcomeOf r) (now (exit .1 .1 .0)) (now (exit .1 .1 .1 .0))
 read-parse m κs args r exit p e =
     call-parse m (now (args .0)) (now (args .1 .1 .0)) (now (args .1 .1 .1 .0)) (readingCall (compatOf (args .1 .0)) (now (args .0)) (length (now (args .1 .1 .0))) (length (now (args .1 .1 .1 .0))))
-    (outcomeOf r) (now (exit .1 .1 .0)) (now (exit .1 .1 .1 .0)) (rw e refl) (p .0) (p .1 .0) (p .1 .1)
+    (outcomeOf r) (now (exit .1 .1 .0)) (now (exit .1 .1 .1 .0)) (rw e refl) (p .0)
+    (p .1 .0 ∙ ap (λ c. comparatorWordsAfter c (now (args .0)) (readingCall (compatOf (args .1 .0)) (now (args .0)) (length (now (args .1 .1 .0))) (length (now (args .1 .1 .1 .0)))) (now (args .1 .1 .0))) e)
+    (p .1 .1)
 
 under-accepted : {A : Type 0} (k : ℕ) (m : E.Compat) (f : E.Compat → Answer A) → modeOf k ≡ accepted m → under k f ≡ f m
 unfolding under
 under-accepted k m f e = ap (λ a. andThen a f) e
+
+words-accepted : (k : ℕ) (m : E.Compat) (f : E.Compat → List ℕ) (old : List ℕ) → modeOf k ≡ accepted m → wordsUnder k f old ≡ f m
+unfolding wordsUnder
+words-accepted k m f old e = ap (λ a. afterMode a f old) e
 
 pub maluwesi-read-parse : (m : Compat) (κs : _) (args : _) (n : _) (exit : _) → MaluwesiRead.Post κs args n exit → modeOf (args .1 .0) ≡ accepted (mode m)
     → length (now (args .0)) ≤ longest → RowsFit (parse m (now (args .0))) (length (now (args .1 .1 .0))) (length (now (args .1 .1 .1 .0)))
@@ -119,4 +125,7 @@ pub maluwesi-read-parse : (m : Compat) (κs : _) (args : _) (n : _) (exit : _) �
 maluwesi-read-parse m κs args n exit p e =
     call-parse m (now (args .0)) (now (args .1 .1 .0)) (now (args .1 .1 .1 .0)) (under (args .1 .0) (λ m. readingCall m (now (args .0)) (length (now (args .1 .1 .0))) (length (now (args .1 .1 .1 .0)))))
     (outcome n (now (exit .1 .1 .1 .1 .0)) (now (exit .1 .1 .1 .1 .1 .0)) (now (exit .1 .1 .1 .1 .1 .1 .0))) (now (exit .1 .1 .0)) (now (exit .1 .1 .1 .0))
-    (under-accepted (args .1 .0) (mode m) _ e) (p .0) (p .1 .0) (p .1 .1)
+    (under-accepted (args .1 .0) (mode m) _ e) (p .0)
+    (p .1 .0 ∙ words-accepted (args .1 .0) (mode m) _ (now (args .1 .1 .0)) e
+    ∙ ap (λ a. comparatorWordsAfter (mode m) (now (args .0)) a (now (args .1 .1 .0))) (sym (under-accepted (args .1 .0) (mode m) _ e)))
+    (p .1 .1)

@@ -5,6 +5,7 @@ use mathlib.Core.List.{List}
 use lib.Dec.{eqb}
 use Rattle.rules.specs.Bytes.{pick}
 use Rattle.rules.specs.Expansion.{Reading}
+use Rattle.rules.specs.Rows.{comparatorWidth}
 use Rattle.rules.specs.Answers.{Answer, accepted, refused, comparatorRows, identifierRows, Outcome}
 use Rattle.rules.specs.Equality.{handedBack}
 use Rattle.reference.specs.RangeSet.{Returned, Ok, Err, panicked, endless}
@@ -19,7 +20,7 @@ handed t o words ids = seen (answerIn t o words ids)
 
 -- The rows of what the crate returns fit so many lent words.
 abbrev pub RowsFit : Returned → ℕ → ℕ → Type 0
-RowsFit (Ok ranges) cw iw = (comparatorRows ranges ≤ cw / 6) × (identifierRows ranges ≤ iw / 3)
+RowsFit (Ok ranges) cw iw = (comparatorRows ranges ≤ cw / comparatorWidth) × (identifierRows ranges ≤ iw / 3)
 RowsFit Err cw iw = Unit {0}
 RowsFit panicked cw iw = Unit {0}
 RowsFit endless cw iw = Unit {0}

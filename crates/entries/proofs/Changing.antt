@@ -1,21 +1,24 @@
 -- An entry put behind the others, and one removed: a law for each of the code's ways.
 -- Assumes nothing.
 use Prim.Native.Nat.{ℕ, suc, _+_, _*_, _-_, _≤_, _<_}
-use mathlib.Core.Path.{_≡_, refl, sym, _∙_}
+use mathlib.Core.Path.{_≡_, refl, sym, ap, ap₂, _∙_}
 use mathlib.Core.List.{List, [], _∷_, _++_, append-nil, append-assoc}
 use native.Mathlib.Omega.{arith}
 use native.Mathlib.Nat.{mul-suc, add-suc}
 use native.Mathlib.Numerals.{add-one}
-use lib.ListN.{length, take, drop, set, replicate, length-take, length-drop, drop-of-length-le, length-set}
-use lib.Seq.{sets, sets-eq, drop-at, drop-set-add, length-take-le, length-sets}
+use lib.ListN.{length, take, drop, set, replicate, length-append, length-take, length-drop, drop-of-length-le, length-set, take-append-drop}
+use lib.Seq.{sets, sets-eq, set-append-left, take-append-add, drop-append-add, take-at, drop-at, drop-drop, drop-set-add, length-take-le, length-sets}
 use borrow.Rule.Slice.PartMut.{putMid}
 use Rattle.rules.specs.Lists.{concat}
 use Rattle.rules.specs.Expansion.{Compat, modeNumber}
 use Rattle.rules.proofs.Left.{rest-in}
+use Rattle.rows.specs.Put.{Put}
 use Rattle.rows.proofs.Stores.{part-back}
 use Rattle.shelf_rules.specs.Table.{lowFirst, rowAdded, rowRemoved}
-use Rattle.shelf_rules.specs.Shelf.{entryRow, countIn, withEntry, withoutEntry}
-use Rattle.shelf_rules.proofs.TableLaws.{rows-concat}
+use Rattle.shelf_rules.specs.Triples.{Bounds}
+use Rattle.shelf_rules.specs.Shelf.{entryRow, keptRow, entryPlaces, withEntry, withoutEntry}
+use Rattle.shelf_rules.proofs.TableLaws.{rows-concat, removed-length}
+use Rattle.shelf_rules.proofs.KeptLaws.{kept-length}
 use Rattle.shelf_rules.proofs.EntryLaws.{entry-length}
 use Rattle.memory.proofs.Numbers.{two-put}
 use Rattle.entries.specs.Views.{Counted}
@@ -68,47 +71,135 @@ drop-sets b a i (x ∷ e) =
     let r : drop a (sets (set b (a + i) x) (a + suc i) e) ≡ sets (drop a (set b (a + i) x)) (suc i) e = drop-sets (set b (a + i) x) a (suc i) e in
     rw (add-suc, drop-set-add) at r
 
--- ---- add_at
+-- in a list of two parts
+sets-left : (t k : List ℕ) (i : ℕ) (e : List ℕ) → i + length e ≤ length t → sets (t ++ k) i e ≡ sets t i e ++ k
+sets-left t k i [] h = refl
+sets-left t k i (x ∷ e) h =
+    ap (λ r. sets r (suc i) e) (set-append-left t k i x (omega arith)) ∙ sets-left (set t i x) k (suc i) e (omega (arith, length-set t i x))
+
+sets-right : (t k : List ℕ) (j : ℕ) (e : List ℕ) → j + length e ≤ length k → sets (t ++ k) (length t + j) e ≡ t ++ sets k j e
+sets-right t k j e h =
+    let q : length t + j + length e ≡ length t + (j + length e) = omega arith in
+    let a : drop (length t + j + length e) (t ++ k) ≡ drop (j + length e) k = ap (λ i. drop i (t ++ k)) q ∙ drop-append-add t k (j + length e) in
+    sets-eq e (t ++ k) (length t + j) (omega (arith, length-append t k))
+    ∙ rw (take-append-add, a, sets-eq e k j h)
+    (append-assoc (t ++ take j k) e (drop (j + length e) k) ∙ append-assoc t (take j k) (e ++ drop (j + length e) k)
+    ∙ ap (λ r. t ++ r) (sym (append-assoc (take j k) e (drop (j + length e) k))))
+
+-- ---- add_rows
 
 module _ (l : List ℕ) (n : ℕ) (c : Counted l n) (h : n < 256) where
   pub add-room : 100 ≤ length (take (length l - (2 + 100 * n)) (drop (2 + 100 * n) l))
   add-room = let s = c .sized in simp (length-take, length-drop) (omega arith)
 
-  added-row : (e y : List ℕ) → length e ≡ 100 → y ≡ sets (take (length l - (2 + 100 * n)) (drop (2 + 100 * n) l)) 0 e
-      → drop 2 (putMid (2 + 100 * n) (length l - (2 + 100 * n)) l y) ≡ rowAdded 100 n e (drop 2 l)
-  added-row e y q p =
-      let s = c .sized in
-      rw (part-back l (2 + 100 * n) e p) (drop-sets l 2 (100 * n) e) ∙ row-set 100 n e (drop 2 l) q (simp length-drop (omega arith))
+  module _ (e y : List ℕ) (p : y ≡ sets (take (length l - (2 + 100 * n)) (drop (2 + 100 * n) l)) 0 e) where
+    entry-stored : putMid (2 + 100 * n) (length l - (2 + 100 * n)) l y ≡ sets l (2 + 100 * n) e
+    entry-stored = part-back l (2 + 100 * n) e p
 
-  pub add-done : (code : ℕ) (m : Compat) (t y r : List ℕ) → length t ≤ 96
-      → y ≡ sets (take (length l - (2 + 100 * n)) (drop (2 + 100 * n) l)) 0 (entryRow code m t)
-      → r ≡ lowFirst 2 (n + 1) ++ drop 2 (putMid (2 + 100 * n) (length l - (2 + 100 * n)) l y) → r ≡ withEntry (entryRow code m t) l
+    pub kept-room : 25602 + 48 * n + 48 ≤ length (putMid (2 + 100 * n) (length l - (2 + 100 * n)) l y)
+    kept-room = let s = c .sized in omega (arith, ap length entry-stored, length-sets l (2 + 100 * n) e)
+
+  pub add-rows-done : (code : ℕ) (m : Compat) (x y r : List ℕ) (b : Bounds) (i : ℕ) → length x ≤ 96
+      → y ≡ sets (take (length l - (2 + 100 * n)) (drop (2 + 100 * n) l)) 0 (entryRow code m x)
+      → Put (putMid (2 + 100 * n) (length l - (2 + 100 * n)) l y) (25602 + 48 * n) (keptRow b) r i
+      → lowFirst 2 (n + 1) ++ drop 2 r ≡ withEntry (entryRow code m x) (keptRow b) l
   unfolding withEntry
-  add-done code m t y r k p q =
-      let e : countIn l ≡ n = c .is in
-      q ∙ rw (added-row (entryRow code m t) y (entry-length code m t k) p, e, add-one)
+  add-rows-done code m x y r b i k p q =
+      let s = c .sized in
+      let e = entryRow code m x in
+      let w = keptRow b in
+      let d = drop 2 l in
+      let en : length e ≡ 100 = entry-length code m x k in
+      let wn : length w ≡ 48 = kept-length b in
+      let dn : length d ≡ 37888 = length-drop 2 l ∙ omega arith in
+      let tn : length (entryPlaces l) ≡ 25600 = length-take-le 25600 d (omega arith) in
+      let kept : drop 25600 d ≡ drop 25602 l = drop-drop 25600 2 l in
+      let kn : length (drop 25602 l) ≡ 12288 = length-drop 25602 l ∙ omega arith in
+      let parts : d ≡ entryPlaces l ++ drop 25602 l = sym (take-append-drop 25600 d) ∙ ap (λ z. entryPlaces l ++ z) kept in
+      let an : length (sets (entryPlaces l) (100 * n) e) ≡ 25600 = length-sets (entryPlaces l) (100 * n) e ∙ tn in
+      let at : 25602 + 48 * n ≡ 2 + (25600 + 48 * n) = omega arith in
+      let both : drop 2 r ≡ rowAdded 100 n e (entryPlaces l) ++ rowAdded 48 n w (drop 25602 l)
+      = ap (drop 2) (q .stored ∙ ap (λ z. sets z (25602 + 48 * n) w) (entry-stored e y p) ∙ ap (λ z. sets (sets l (2 + 100 * n) e) z w) at)
+      ∙ drop-sets (sets l (2 + 100 * n) e) 2 (25600 + 48 * n) w
+      ∙ ap (λ z. sets z (25600 + 48 * n) w)
+      (drop-sets l 2 (100 * n) e ∙ ap (λ z. sets z (100 * n) e) parts ∙ sets-left (entryPlaces l) (drop 25602 l) (100 * n) e (omega arith))
+      ∙ ap (λ z. sets (sets (entryPlaces l) (100 * n) e ++ drop 25602 l) (z + 48 * n) w) (sym an)
+      ∙ sets-right (sets (entryPlaces l) (100 * n) e) (drop 25602 l) (48 * n) w (omega arith)
+      ∙ ap₂ _++_ (row-set 100 n e (entryPlaces l) en (omega arith)) (row-set 48 n w (drop 25602 l) wn (omega arith)) in
+      ap₂ (λ i z. lowFirst 2 i ++ z) (add-one n) both
+      ∙ ap (λ i. lowFirst 2 (suc i) ++ (rowAdded 100 i e (entryPlaces l) ++ rowAdded 48 i w (drop 25602 l))) (sym (c .is))
 
-pub ruleset addings = (add-room, add-done)
+pub ruleset rowAdds = (add-room, kept-room, add-rows-done)
 
--- ---- remove_at
+-- ---- remove_rows
 
--- the part behind two bytes
-part-left : (l y : List ℕ) → 2 ≤ length l → drop 2 (putMid 2 (length l - 2) l y) ≡ y
-part-left l y h =
-    let e : drop (length l - 2) (drop 2 l) ≡ [] = drop-of-length-le (drop 2 l) {i = length l - 2} (omega (arith, length-drop 2 l)) in
-    let t : length (take 2 l) ≡ 2 = length-take-le 2 l h in
-    rw (e, append-nil) (drop-at (take 2 l) y 2 t)
+-- a list whose part from a up to c becomes y, and then what stands from c on becomes z
+module _ (l y : List ℕ) (a c : ℕ) (ac : a ≤ c) (h : c ≤ length l) (e : length y ≡ c - a) where
+  abbrev once : List ℕ
+  once = putMid a (c - a) l y
+
+  front : length (take a l ++ y) ≡ c
+  front = omega (arith, length-append (take a l) y, length-take-le a l (omega arith))
+
+  once-is : once ≡ (take a l ++ y) ++ drop c l
+  once-is =
+      let d : a + (c - a) ≡ c = omega arith in
+      let p : drop (c - a) (drop a l) ≡ drop c l = drop-drop (c - a) a l ∙ ap (λ i. drop i l) d in
+      ap (λ r. take a l ++ (y ++ r)) p ∙ sym (append-assoc (take a l) y (drop c l))
+
+  once-length : length once ≡ length l
+  once-length = ap length once-is ∙ length-append (take a l ++ y) (drop c l) ∙ omega (arith, front, length-drop c l)
+
+  once-rest : take (length once - c) (drop c once) ≡ drop c l
+  once-rest = rest-in once c ∙ ap (drop c) once-is ∙ drop-at (take a l ++ y) (drop c l) c front
+
+  twice-is : (z : List ℕ) → putMid c (length once - c) once z ≡ (take a l ++ y) ++ z
+  twice-is z =
+      let p : drop (length once - c) (drop c once) ≡ [] = drop-of-length-le (drop c once) {i = length once - c} (omega (arith, length-drop c once)) in
+      let q : take c once ≡ take a l ++ y = ap (take c) once-is ∙ take-at (take a l ++ y) (drop c l) c front in
+      ap (λ r. take c once ++ (z ++ r)) p ∙ rw (append-nil, q)
+
+  twice-drop : (z : List ℕ) → drop a (putMid c (length once - c) once z) ≡ y ++ z
+  twice-drop z =
+      ap (drop a) (twice-is z ∙ append-assoc (take a l) y z) ∙ drop-at (take a l) (y ++ z) a (length-take-le a l (omega arith))
 
 module _ (l : List ℕ) (n k : ℕ) (c : Counted l n) (h : k < n) where
-  pub remove-room : 100 * n ≤ length (take (length l - 2) (drop 2 l))
-  remove-room = let s = c .sized in let f = c .few in simp (length-take, length-drop) (omega arith)
+  pub rows-room : 100 * n ≤ length (take (25602 - 2) (drop 2 l))
+  rows-room = let s = c .sized in let f = c .few in simp (length-take, length-drop) (omega arith)
 
-  pub remove-done : (y r : List ℕ) → y ≡ rowRemoved 100 n k (take (length l - 2) (drop 2 l))
-      → r ≡ lowFirst 2 (n - 1) ++ drop 2 (putMid 2 (length l - 2) l y) → r ≡ withoutEntry k l
-  unfolding withoutEntry
-  remove-done y r p q =
-      let s = c .sized in
-      let e : countIn l ≡ n = c .is in
-      rw (q, part-left l y (omega arith), p, rest-in l 2, e)
+  module _ (y : List ℕ) (p : y ≡ rowRemoved 100 n k (take (25602 - 2) (drop 2 l))) where
+    same : length y ≡ 25602 - 2
+    same =
+        let s = c .sized in
+        let t : length (take (25602 - 2) (drop 2 l)) ≡ 25602 - 2 = length-take-le (25602 - 2) (drop 2 l) (simp length-drop (omega arith)) in
+        ap length p ∙ removed-length 100 n k (take (25602 - 2) (drop 2 l)) h rows-room ∙ t
 
-pub ruleset removings = (remove-room, remove-done)
+    inside : 25602 ≤ length l
+    inside = let s = c .sized in omega arith
+
+    pub kept-within : 25602 ≤ length (putMid 2 (25602 - 2) l y)
+    kept-within = omega (arith, once-length l y 2 25602 (omega arith) inside same, inside)
+
+    pub kepts-room : 48 * n ≤ length (take (length (putMid 2 (25602 - 2) l y) - 25602) (drop 25602 (putMid 2 (25602 - 2) l y)))
+    kepts-room =
+        let s = c .sized in let f = c .few in
+        let e = ap length (once-rest l y 2 25602 (omega arith) inside same) in
+        omega (arith, length-drop 25602 l)
+
+    pub rows-done : (z : List ℕ) → z ≡ rowRemoved 48 n k (take (length (putMid 2 (25602 - 2) l y) - 25602) (drop 25602 (putMid 2 (25602 - 2) l y)))
+        → lowFirst 2 (n - 1) ++ drop 2 (putMid 25602 (length (putMid 2 (25602 - 2) l y) - 25602) (putMid 2 (25602 - 2) l y) z) ≡ withoutEntry k l
+    unfolding withoutEntry
+    rows-done z q =
+        ap (λ r. lowFirst 2 (n - 1) ++ r)
+        (twice-drop l y 2 25602 (omega arith) inside same z ∙ ap₂ _++_ p (q ∙ ap (rowRemoved 48 n k) (once-rest l y 2 25602 (omega arith) inside same)))
+        ∙ ap (λ i. lowFirst 2 (i - 1) ++ (rowRemoved 100 i k (entryPlaces l) ++ rowRemoved 48 i k (drop 25602 l))) (sym (c .is))
+
+pub ruleset rowRemovals = (rows-room, kept-within, kepts-room, rows-done)
+
+-- ---- add_at, remove_at
+
+-- the count in the first two bytes
+pub counted : (r w y x : List ℕ) → w ++ drop 2 y ≡ x → r ≡ w ++ drop 2 y → r ≡ x
+counted r w y x p q = q ∙ p
+
+pub ruleset counts = (counted)

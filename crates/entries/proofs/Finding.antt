@@ -25,18 +25,18 @@ pub ruleset codes = (code-is)
 -- ---- count_entries
 
 module _ (l : List ℕ) where
-  module _ (n : ℕ) (e : n ≡ numberIn (take 2 (drop 0 l))) (h : length l ≡ 25602) where
+  module _ (n : ℕ) (e : n ≡ numberIn (take 2 (drop 0 l))) (h : length l ≡ 37890) where
     pub counted-yes : n ≤ 256 → accepted n ≡ mapAnswer countIn (shelfIn l)
     unfolding shelfIn sized
-    counted-yes g = rw (eq-eqb (length l) 25602 h, ← e, le-leb n 256 g, ← e)
+    counted-yes g = rw (eq-eqb (length l) 37890 h, ← e, le-leb n 256 g, ← e)
 
     pub counted-many : 256 < n → refused 10 ≡ mapAnswer countIn (shelfIn l)
     unfolding shelfIn sized
-    counted-many g = rw (eq-eqb (length l) 25602 h, ← e, lt-leb n 256 g)
+    counted-many g = rw (eq-eqb (length l) 37890 h, ← e, lt-leb n 256 g)
 
-  pub counted-other : (length l ≡ 25602 → ⊥) → refused 10 ≡ mapAnswer countIn (shelfIn l)
+  pub counted-other : (length l ≡ 37890 → ⊥) → refused 10 ≡ mapAnswer countIn (shelfIn l)
   unfolding shelfIn sized
-  counted-other h = rw (ne-eqb (length l) 25602 h)
+  counted-other h = rw (ne-eqb (length l) 37890 h)
 
 pub ruleset countings = (counted-yes, counted-many, counted-other)
 

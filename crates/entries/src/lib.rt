@@ -1,13 +1,15 @@
-// The entries of a shelf in lent bytes (02, N1): how many there are, which one has a part code, where its text stands, one put behind them and one
-// removed. "Shelf", "entry" and "part code" are 02's words.
+// The entries of a shelf in lent bytes (02, N1), each with its kept triples (N3): how many there are, which one has a part code, where its text
+// stands, one put behind them and one removed. "Shelf", "entry" and "part code" are 02's words.
 ghost use mathlib.Core.Path.{_≡_};
-ghost use Prim.Native.Nat.{_+_, _*_, _≤_, _<_};
+ghost use mathlib.Core.List.{_++_};
+ghost use Prim.Native.Nat.{_+_, _*_, _-_, _≤_, _<_};
 ghost use lib.ListN.{length, drop};
 ghost use lib.Seq.{sets};
 ghost use Rattle.rules.specs.Answers.{mapAnswer};
 ghost use Rattle.range.specs.Views.{compatOf};
-ghost use Rattle.shelf_rules.specs.Table.{rowsOf};
-ghost use Rattle.shelf_rules.specs.Shelf.{entryWidth, longestText, capacity, entryRow, codeIn, countIn, findCode, withEntry, withoutEntry, shelfIn};
+ghost use Rattle.shelf_rules.specs.Table.{rowsOf, lowFirst};
+ghost use Rattle.shelf_rules.specs.Shelf.{entryWidth, longestText, capacity, entryRow, keptRow, codeIn, countIn, findCode, withEntry, withoutEntry, shelfIn};
+ghost use Rattle.triples.specs.Views.{boundsIs};
 ghost use Rattle.entries.specs.Views.{Counted, rowAt, countOf, foundOf, partAt};
 use memory::put_padded;
 use memory::put_two;
@@ -15,11 +17,13 @@ use memory::remove_row;
 use memory::two_at;
 use memory::wide;
 use range::Compat;
+use triples::Bounds;
+use triples::put_bounds;
 
 // ---- sizes
 
 // The whole shelf.
-pub const SHELF_BYTES: usize = 25602;
+pub const SHELF_BYTES: usize = 37890;
 
 // How many entries there can be.
 pub const CAPACITY: usize = 256;
@@ -29,6 +33,12 @@ pub const ENTRY_BYTES: usize = 100;
 
 // The longest text.
 pub const TEXT_BYTES: usize = 96;
+
+// The triples of one entry: six numbers of eight bytes.
+pub const KEPT_BYTES: usize = 48;
+
+// Where they begin, behind all places of entries.
+pub const KEPT_PLACE: usize = 2 + ENTRY_BYTES * CAPACITY;
 
 // ---- found
 
@@ -119,16 +129,37 @@ fn put_entry(row: &mut [u8], code: u16, compat: Compat, text: &[u8])
     put_padded(row, 4, text, TEXT_BYTES);
 }
 
-// One entry more, behind n.
-pub fn add_at(shelf: &mut [u8], n: usize, code: u16, compat: Compat, text: &[u8])
+// One entry more, behind n, but for the count.
+fn add_rows(shelf: &mut [u8], n: usize, code: u16, compat: Compat, text: &[u8], b: Bounds)
     requires { ⌜ Counted (now shelf) n ⌝ }
     requires { ⌜ n < capacity ⌝ }
     requires { ⌜ length (now text) ≤ longestText ⌝ }
-    ensures { λ _. ⌜ now (shelf .exit) ≡ withEntry (entryRow code (compatOf compat) (now (text .entry))) (now (shelf .entry)) ⌝ }
+    ensures { λ _. ⌜ lowFirst 2 (n + 1) ++ drop 2 (now (shelf .exit)) ≡ withEntry (entryRow code (compatOf compat) (now (text .entry))) (keptRow (boundsIs b)) (now (shelf .entry)) ⌝ }
 {
     let at = 2 + ENTRY_BYTES * n;
     put_entry(&mut shelf[at..], code, compat, text);
+    put_bounds(shelf, KEPT_PLACE + KEPT_BYTES * n, b);
+}
+
+// One entry more, behind n.
+pub fn add_at(shelf: &mut [u8], n: usize, code: u16, compat: Compat, text: &[u8], b: Bounds)
+    requires { ⌜ Counted (now shelf) n ⌝ }
+    requires { ⌜ n < capacity ⌝ }
+    requires { ⌜ length (now text) ≤ longestText ⌝ }
+    ensures { λ _. ⌜ now (shelf .exit) ≡ withEntry (entryRow code (compatOf compat) (now (text .entry))) (keptRow (boundsIs b)) (now (shelf .entry)) ⌝ }
+{
+    add_rows(shelf, n, code, compat, text, b);
     put_two(shelf, (n + 1) as u16);
+}
+
+// The entry at k goes, of n, but for the count.
+fn remove_rows(shelf: &mut [u8], n: usize, k: usize)
+    requires { ⌜ Counted (now shelf) n ⌝ }
+    requires { ⌜ k < n ⌝ }
+    ensures { λ _. ⌜ lowFirst 2 (n - 1) ++ drop 2 (now (shelf .exit)) ≡ withoutEntry k (now (shelf .entry)) ⌝ }
+{
+    remove_row(&mut shelf[2..KEPT_PLACE], ENTRY_BYTES, n, k);
+    remove_row(&mut shelf[KEPT_PLACE..], KEPT_BYTES, n, k);
 }
 
 // The entry at k goes, of n.
@@ -137,6 +168,6 @@ pub fn remove_at(shelf: &mut [u8], n: usize, k: usize)
     requires { ⌜ k < n ⌝ }
     ensures { λ _. ⌜ now (shelf .exit) ≡ withoutEntry k (now (shelf .entry)) ⌝ }
 {
-    remove_row(&mut shelf[2..], ENTRY_BYTES, n, k);
+    remove_rows(shelf, n, k);
     put_two(shelf, (n - 1) as u16);
 }

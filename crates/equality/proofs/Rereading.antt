@@ -10,8 +10,8 @@ use lib.Dec.{leb}
 use lib.ListN.{length, take}
 use Rattle.rules.specs.Expansion as E
 use Rattle.rules.specs.Expansion.{Compat}
-use Rattle.rules.specs.Rows.{placelessReading}
 use Rattle.rules.specs.NormalText.{spell}
+use Rattle.rules.specs.Rows.{comparatorWidth, placelessReading}
 use Rattle.rules.specs.Answers.{Answer, accepted, refused, longest, reading, comparatorRows, identifierRows, readingCall, readingOutcome, written, comparatorWordsAfter, identifierWordsAfter, normalText, normalTextCall, normalTextOutcome, bytesAfter}
 use Rattle.rules.specs.Equality.{Reread, reread, textRefused, normalRefused, readAgain, thenRead, rereadCall, neither, theText, itsNormalText, rereadOutcome, rereadBytesAfter, rereadComparatorsAfter, rereadIdentifiersAfter, Restores}
 use Rattle.rules.proofs.RoundTrip.{round-trip}
@@ -47,7 +47,7 @@ module _ (m m′ : Compat) (s : List ℕ) (lent cw iw : ℕ) where
     unfolding rereadCall thenRead readAgain
     then-refused n q = rw (rereadCall, e, q)
 
-    then-accepted : (ss : E.Reading) → readingCall m′ w cw iw ≡ accepted ss → rereadCall m m′ s lent cw iw ≡ reread w ss
+    then-accepted : (ss : E.Reading) → readingCall m′ w cw iw ≡ accepted ss → rereadCall m m′ s lent cw iw ≡ reread m′ w ss
     unfolding rereadCall thenRead readAgain
     then-accepted ss q = rw (rereadCall, e, q)
 
@@ -62,18 +62,18 @@ module _ (m m′ : Compat) (s : List ℕ) (lent cw iw : ℕ) where
       again : (ss : E.Reading) × (reading m′ (spell rs) ≡ accepted ss) × (placelessReading ss ≡ placelessReading rs)
       again = round-trip m m′ s rs e l
 
-      reread-5 : cw / 6 < comparatorRows rs → rereadCall m m′ s lent cw iw ≡ normalRefused 5
+      reread-5 : cw / comparatorWidth < comparatorRows rs → rereadCall m m′ s lent cw iw ≡ normalRefused 5
       reread-5 k =
           reading-refused 5 (call-5 m′ (spell rs) cw iw (again .0) (again .1) (rw (sym (placeless-comparators (again .0) rs (again .2))) at k))
 
-      module _ (k : comparatorRows rs ≤ cw / 6) where
-        rows : comparatorRows (again .0) ≤ cw / 6
+      module _ (k : comparatorRows rs ≤ cw / comparatorWidth) where
+        rows : comparatorRows (again .0) ≤ cw / comparatorWidth
         rows = rw (sym (placeless-comparators (again .0) rs (again .2))) at k
 
         reread-6 : iw / 3 < identifierRows rs → rereadCall m m′ s lent cw iw ≡ normalRefused 6
         reread-6 j = reading-refused 6 (call-6 m′ (spell rs) cw iw (again .0) (again .1) rows (rw (sym (placeless-identifiers (again .0) rs (again .2))) at j))
 
-        reread-accepts : identifierRows rs ≤ iw / 3 → rereadCall m m′ s lent cw iw ≡ reread (spell rs) (again .0)
+        reread-accepts : identifierRows rs ≤ iw / 3 → rereadCall m m′ s lent cw iw ≡ reread m′ (spell rs) (again .0)
         reread-accepts j =
             then-accepted (spell rs) (normal-accepts m s lent rs e h) (again .0)
             (call-accepts m′ (spell rs) cw iw (again .0) (again .1) rows (rw (sym (placeless-identifiers (again .0) rs (again .2))) at j))
@@ -128,12 +128,12 @@ module _ (m : Compat) (s : List ℕ) (lent cw iw : ℕ) (c : Counts) (e : counts
       short : length (spell reads) ≤ longest
       short = rw (writes .size) at l
 
-      pub space-5 : cw / 6 < c .comparators → Decides m s lent cw iw (rereadOf (W.NormalRefused Refusals.ComparatorsShort))
+      pub space-5 : cw / comparatorWidth < c .comparators → Decides m s lent cw iw (rereadOf (W.NormalRefused Refusals.ComparatorsShort))
       space-5 k =
           refuses-normal m s lent cw iw Refusals.ComparatorsShort
           (λ m′. reread-5 m m′ s lent cw iw reads (writes .is) (writes .room) short (rw comparators at k))
 
-      module _ (k : c .comparators ≤ cw / 6) where
+      module _ (k : c .comparators ≤ cw / comparatorWidth) where
         pub space-6 : iw / 3 < c .identifiers → Decides m s lent cw iw (rereadOf (W.NormalRefused Refusals.IdentifiersShort))
         space-6 j =
             refuses-normal m s lent cw iw Refusals.IdentifiersShort
@@ -175,7 +175,7 @@ restored m m′ s out words ids a i =
       equal =
           λ rs q l h k j.
           let ss = again m m′ s (length out) (length words) (length ids) rs q h l in
-          let e : a ≡ reread (spell rs) (ss .0) = i ∙ reread-accepts m m′ s (length out) (length words) (length ids) rs q h l k j in
+          let e : a ≡ reread m′ (spell rs) (ss .0) = i ∙ reread-accepts m m′ s (length out) (length words) (length ids) rs q h l k j in
           let w : take (length (spell rs)) (bytesAfter (accepted (spell rs)) out) ≡ spell rs = start (spell rs) out _ _ refl refl in
           rw e (refl, rw w (ap placelessReading (handed-rows m′ (spell rs) (ss .0) (ss .1) words ids) ∙ ss .2));
     }
@@ -186,7 +186,7 @@ record Rereads (m m′ : Compat) (s : List ℕ) (lent cw iw : ℕ) : Type 0 wher
   pub reading : E.Reading
   pub normal : normalTextCall m s lent ≡ accepted text
   pub reads : readingCall m′ text cw iw ≡ accepted reading
-  pub whole : rereadCall m m′ s lent cw iw ≡ reread text reading
+  pub whole : rereadCall m m′ s lent cw iw ≡ reread m′ text reading
 
 pub text-apart : theText ≡ neither → ⊥
 text-apart z = let y : _≡_ {A = ℕ} 0 1 = cc in omega arith
@@ -231,7 +231,7 @@ module _ (m : Compat) (s out words ids : List ℕ) (r : C.Reread) (d : Decides m
       where
         go : (a : Reread) → call m′ ≡ a
             → (out ≡ rereadBytesAfter (call m′) out) × (words ≡ rereadComparatorsAfter (call m′) words) × (ids ≡ rereadIdentifiersAfter (call m′) ids)
-        go (reread w rs) e = absurd (z (ap (λ o. o .refuses) (refused-result m′ ∙ ap rereadOutcome e)))
+        go (reread m″ w rs) e = absurd (z (ap (λ o. o .refuses) (refused-result m′ ∙ ap rereadOutcome e)))
         go (textRefused n) e = rw e (refl, refl, refl)
         go (normalRefused n) e = rw e (refl, refl, refl)
 
@@ -285,15 +285,15 @@ module _ (m : Compat) (s out words ids : List ℕ) (r : C.Reread) (d : Decides m
             p ∙ ap (λ a. bytesAfter a out) (sym (fitting m s (length out) writes-fits) ∙ has-all m′ .normal)
             ∙ ap (λ a. rereadBytesAfter a out) (sym (has-all m′ .whole))
 
-        pub reads-words : (words′ : List ℕ) → words′ ≡ comparatorWordsAfter read-call words → words′ ≡ rereadComparatorsAfter (call m′) words
+        pub reads-words : (words′ : List ℕ) → words′ ≡ comparatorWordsAfter m′ (take n out′) read-call words → words′ ≡ rereadComparatorsAfter (call m′) words
         unfolding rereadComparatorsAfter
-        reads-words words′ h = h ∙ ap (λ a. comparatorWordsAfter a words) read-is ∙ ap (λ a. rereadComparatorsAfter a words) (sym (has-all m′ .whole))
+        reads-words words′ h = h ∙ ap₂ (λ t a. comparatorWordsAfter m′ t a words) text-is read-is ∙ ap (λ a. rereadComparatorsAfter a words) (sym (has-all m′ .whole))
 
         pub reads-ids : (ids′ : List ℕ) → ids′ ≡ identifierWordsAfter (take n out′) read-call ids → ids′ ≡ rereadIdentifiersAfter (call m′) ids
         unfolding rereadIdentifiersAfter
         reads-ids ids′ h = h ∙ ap₂ (λ t a. identifierWordsAfter t a ids) text-is read-is ∙ ap (λ a. rereadIdentifiersAfter a ids) (sym (has-all m′ .whole))
 
-        pub reads-equal : (words′ : List ℕ) → words′ ≡ comparatorWordsAfter read-call words → (ids′ : List ℕ) → ids′ ≡ identifierWordsAfter (take n out′) read-call ids
+        pub reads-equal : (words′ : List ℕ) → words′ ≡ comparatorWordsAfter m′ (take n out′) read-call words → (ids′ : List ℕ) → ids′ ≡ identifierWordsAfter (take n out′) read-call ids
             → Restores m s (length out) (length words) (length ids) (rereadOf (W.Accepted c) .outcome) out′ words′ ids′
         reads-equal words′ h ids′ j = rw q at (handed m′ out′ words′ ids′ writes-bytes (reads-words words′ h) (reads-ids ids′ j))
 

@@ -14,6 +14,7 @@ use rangeset::Reading;
 use rangeset::Refusal;
 use rangeset::count;
 use rangeset::read;
+use rows::COMPARATOR_WORDS;
 
 // ---- a normal text, written
 
@@ -59,7 +60,7 @@ fn decide_space(
     if len > 65535 {
         return Reread::NormalRefused(Refusal::TooLong);
     }
-    if counts.comparators > words / 6 {
+    if counts.comparators > words / COMPARATOR_WORDS {
         return Reread::NormalRefused(Refusal::ComparatorsShort);
     }
     if counts.identifiers > ids / 3 {

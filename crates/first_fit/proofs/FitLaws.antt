@@ -57,6 +57,14 @@ pub ruleset entryFitting = (fits-long, fits-text, fits-other)
 
 -- ---- fit_version
 
+-- the part that is lent of the entry at k
+module _ (l : List ℕ) (k : ℕ) where
+  pub part-is : take (2 + 100 * k + 100 - (2 + 100 * k)) (drop (2 + 100 * k) l) ≡ rowAt k l
+  part-is = let e : 2 + 100 * k + 100 - (2 + 100 * k) ≡ 100 = omega arith in ap (λ i. take i (drop (2 + 100 * k) l)) e ∙ rw drop-drop
+
+  pub part-length : 2 + 100 * k + 100 ≤ length l → length (take (2 + 100 * k + 100 - (2 + 100 * k)) (drop (2 + 100 * k) l)) ≡ 100
+  part-length h = let e : 2 + 100 * k + 100 - (2 + 100 * k) ≡ 100 = omega arith in rw (e, length-take, length-drop) (omega arith)
+
 -- no entry before k passes
 pub record Fitting (p : List ℕ → Bool) (es : List (List ℕ)) (k : ℕ) : Type 0 where
   pub is : firstCode p es ≡ firstCode p (drop k es)
@@ -70,27 +78,23 @@ module _ (l : List ℕ) (n : ℕ) (p : List ℕ → Bool) where
     unfolding firstCode
     fitting-none h = ap accepted (sym (rw (no-row l n k h) at (f .is)))
 
-    module _ (h : k < n) where
-      part-is : take (2 + 100 * k + 100 - (2 + 100 * k)) (drop (2 + 100 * k) l) ≡ rowAt k l
-      part-is = let e : 2 + 100 * k + 100 - (2 + 100 * k) ≡ 100 = omega arith in ap (λ i. take i (drop (2 + 100 * k) l)) e ∙ rw drop-drop
+    module _ (h : k < n) (b : Bool) (i : b ≡ p (take (2 + 100 * k + 100 - (2 + 100 * k)) (drop (2 + 100 * k) l))) where
+      pub fitting-here : b ≡ true → (c : ℕ) → c ≡ codeIn (rowAt k l)
+          → _≡_ {A = Answer (Option ℕ)} (accepted (some c)) (accepted (firstCode p (rowsOf 100 n (drop 2 l))))
+      unfolding firstCode
+      fitting-here q c e =
+          let j : p (rowAt k l) ≡ true = rw (part-is l k) at (sym i ∙ q) in
+          ap accepted (sym (f .is ∙ rw (next-row l n k h, j, ← e)))
 
-      module _ (b : Bool) (i : b ≡ p (take (2 + 100 * k + 100 - (2 + 100 * k)) (drop (2 + 100 * k) l))) where
-        pub fitting-here : b ≡ true → (c : ℕ) → c ≡ codeIn (rowAt k l)
-            → _≡_ {A = Answer (Option ℕ)} (accepted (some c)) (accepted (firstCode p (rowsOf 100 n (drop 2 l))))
-        unfolding firstCode
-        fitting-here q c e =
-            let j : p (rowAt k l) ≡ true = rw part-is at (sym i ∙ q) in
-            ap accepted (sym (f .is ∙ rw (next-row l n k h, j, ← e)))
-
-        pub fitting-more : b ≡ false → Fitting p (rowsOf 100 n (drop 2 l)) (k + 1)
-        unfolding firstCode
-        fitting-more q =
-            let j : p (rowAt k l) ≡ false = rw part-is at (sym i ∙ q) in
-            record { is = f .is ∙ rw (next-row l n k h, j, add-one) }
+      pub fitting-more : b ≡ false → Fitting p (rowsOf 100 n (drop 2 l)) (k + 1)
+      unfolding firstCode
+      fitting-more q =
+          let j : p (rowAt k l) ≡ false = rw (part-is l k) at (sym i ∙ q) in
+          record { is = f .is ∙ rw (next-row l n k h, j, add-one) }
 
 pub row-length : (l : List ℕ) (n k : ℕ) → 2 + 100 * n ≤ length l → k < n
     → length (take (2 + 100 * k + 100 - (2 + 100 * k)) (drop (2 + 100 * k) l)) ≡ 100
-row-length l n k h i = let e : 2 + 100 * k + 100 - (2 + 100 * k) ≡ 100 = omega arith in rw (e, length-take, length-drop) (omega arith)
+row-length l n k h i = part-length l k (omega arith)
 
 pub ruleset fittings = (row-length, fitting-start, fitting-none, fitting-here, fitting-more)
 

@@ -31,7 +31,7 @@ pub enum Fit {
 }
 
 // Whether the text of an entry's bytes admits the version.
-fn entry_fits(row: &[u8], t: &[u8], v: Version) -> bool
+pub fn entry_fits(row: &[u8], t: &[u8], v: Version) -> bool
     requires { ⌜ length (now row) ≡ entryWidth ⌝ }
     requires { ⌜ Held (now t) v ⌝ }
     ensures { λ r. ⌜ r ≡ entryFits admits (versionIn (now (t .entry))) (now (row .entry)) ⌝ }

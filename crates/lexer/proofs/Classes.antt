@@ -26,7 +26,13 @@ pub letter-either : (x y : Bool) (c : ℕ) → x ≡ within 97 122 c → y ≡ w
 unfolding isLetter
 letter-either x y c p q = rw (p, q)
 
-pub word-either : (x y : Bool) (c : ℕ) → x ≡ isLetter c → y ≡ isDigit c → (x || y) ≡ isWord c
-word-either x y c p q = rw (p, q)
+module _ (c : ℕ) (x : Bool) (p : x ≡ within 97 122 c) where
+  pub word-lower : x ≡ true → true ≡ isWord c
+  unfolding isLetter
+  word-lower e = rw (← p, e)
 
-pub ruleset classes = (range-low, range-in, range-high, digit-range, letter-either, word-either)
+  pub word-other : x ≡ false → (y z : Bool) → y ≡ within 65 90 c → z ≡ isDigit c → (y || eqb c 45 || z) ≡ isWord c
+  unfolding isLetter
+  word-other e y z q r = rw (← p, e, q, r)
+
+pub ruleset classes = (range-low, range-in, range-high, digit-range, letter-either, word-lower, word-other)

@@ -2,7 +2,7 @@
 -- identifier bytes as a place and a size.
 -- Assumes nothing.
 use Prim.Native.Nat.{ℕ, zero, suc, _+_}
-use mathlib.Core.Path.{_≡_, refl, ap, _∙_}
+use mathlib.Core.Path.{_≡_, refl, sym, ap, _∙_}
 use mathlib.Core.Bool.{Bool, true, false}
 use mathlib.Core.List.{List, [], _∷_}
 use native.Mathlib.Omega.{arith}
@@ -10,8 +10,8 @@ use lib.Dec.{leb}
 use lib.ListN.{length, take, drop}
 use Rattle.rules.specs.Bytes.{pick}
 use Rattle.rules.specs.Expansion as E
-use Rattle.rules.specs.Answers.{Answer, refused, readingOutcome, written, comparatorWordsAfter, identifierWordsAfter, identifierBytes, normalTextOutcome, bytesAfter, Outcome, Length}
-use Rattle.rules.specs.Exported.{under, Verdict, verdict, partAt}
+use Rattle.rules.specs.Answers.{Answer, refused, orRefused, readingOutcome, written, identifierWordsAfter, identifierBytes, normalTextOutcome, bytesAfter, Outcome, Length}
+use Rattle.rules.specs.Exported.{under, afterMode, wordsUnder, Verdict, verdict, partAt}
 use Rattle.range.specs.Views.{compatOf, modeIs}
 use Rattle.range.specs.declared.Compat.{Compat}
 use Rattle.range.specs.declared.Mode.{Mode}
@@ -37,8 +37,9 @@ module _ (k : ℕ) (m : Mode) (e : modeIs m ≡ E.modeFrom k) where
         → (x : Outcome) → x ≡ outcomeOf r → x ≡ readingOutcome (under k f)
     mode-counts f r h x p = p ∙ h ∙ ap readingOutcome (under-this f)
 
-    pub mode-words : (f : E.Compat → Answer E.Reading) (w x : List ℕ) → x ≡ comparatorWordsAfter (f (compatOf c)) w → x ≡ comparatorWordsAfter (under k f) w
-    mode-words f w x p = p ∙ ap (λ a. comparatorWordsAfter a w) (under-this f)
+    pub mode-words : (f : E.Compat → List ℕ) (w x : List ℕ) → x ≡ f (compatOf c) → x ≡ wordsUnder k f w
+    unfolding wordsUnder
+    mode-words f w x p = p ∙ ap (λ o. afterMode (orRefused 255 o) f w) (sym (ap modeIs q) ∙ e)
 
     pub mode-ids : (f : E.Compat → Answer E.Reading) (s i x : List ℕ) → x ≡ identifierWordsAfter s (f (compatOf c)) i → x ≡ identifierWordsAfter s (under k f) i
     mode-ids f s i x p = p ∙ ap (λ a. identifierWordsAfter s a i) (under-this f)
@@ -62,9 +63,9 @@ module _ (k : ℕ) (m : Mode) (e : modeIs m ≡ E.modeFrom k) where
     unfolding readingOutcome
     none-counts f a b c h i j = rw (no-mode f, h, i, j)
 
-    pub none-words : (f : E.Compat → Answer E.Reading) (w : List ℕ) → w ≡ comparatorWordsAfter (under k f) w
-    unfolding comparatorWordsAfter written
-    none-words f w = rw (no-mode f) refl
+    pub none-words : (f : E.Compat → List ℕ) (w : List ℕ) → w ≡ wordsUnder k f w
+    unfolding wordsUnder
+    none-words f w = ap (λ o. afterMode (orRefused 255 o) f w) (sym (ap modeIs q) ∙ e)
 
     pub none-ids : (f : E.Compat → Answer E.Reading) (s i : List ℕ) → i ≡ identifierWordsAfter s (under k f) i
     unfolding identifierWordsAfter written

@@ -5,7 +5,7 @@ ghost use mathlib.Core.Path.{_≡_};
 ghost use lib.ListN.{length, take, drop};
 ghost use Rattle.rules.specs.Answers.{reading, readingCall, readingOutcome, comparatorWordsAfter, identifierWordsAfter, identifierBytes, normalTextCall, normalTextOutcome, bytesAfter};
 ghost use Rattle.rules.specs.Admission.{admissionCall};
-ghost use Rattle.rules.specs.Exported.{under, verdict, partAt};
+ghost use Rattle.rules.specs.Exported.{under, wordsUnder, verdict, partAt};
 ghost use Rattle.numbers.specs.Views.{outcome, lengthIs, verdictIs, partIs};
 use admission::admit;
 use normal_text::normal_text;
@@ -52,7 +52,7 @@ pub extern "C" fn maluwesi_read(
     identifiers: &mut usize,
 ) -> u64
     ensures { λ n. ⌜ outcome n (now (ranges .exit)) (now (comparators .exit)) (now (identifiers .exit)) ≡ readingOutcome (under mode (λ m. readingCall m (now (text .entry)) (length (now (words .entry))) (length (now (ids .entry))))) ⌝ }
-    ensures words { λ _. ⌜ now (words .exit) ≡ comparatorWordsAfter (under mode (λ m. readingCall m (now (text .entry)) (length (now (words .entry))) (length (now (ids .entry))))) (now (words .entry)) ⌝ }
+    ensures words { λ _. ⌜ now (words .exit) ≡ wordsUnder mode (λ m. comparatorWordsAfter m (now (text .entry)) (readingCall m (now (text .entry)) (length (now (words .entry))) (length (now (ids .entry)))) (now (words .entry))) (now (words .entry)) ⌝ }
     ensures ids { λ _. ⌜ now (ids .exit) ≡ identifierWordsAfter (now (text .entry)) (under mode (λ m. readingCall m (now (text .entry)) (length (now (words .entry))) (length (now (ids .entry))))) (now (ids .entry)) ⌝ }
 {
     let m = mode_of(mode);

@@ -1,16 +1,18 @@
 // The shelf's calls as Rust and C make them (bindings/), beside the calls of crates/maluwesi and in their manner: each returns 0, or the number of
-// the refusal, and leaves what was asked for where it is told to. A refused change leaves the shelf as it was; a refused listing or first fit leaves
-// zeros in the places that it is given.
+// the refusal, and leaves what was asked for where it is told to. A refused change leaves the shelf as it was; a refused listing, first fit or lookup
+// leaves zeros in the places that it is given.
 ghost use mathlib.Core.Path.{_≡_};
 ghost use Rattle.rules.specs.Admission.{admits};
 ghost use Rattle.rules.specs.Exported.{under};
 ghost use Rattle.shelf_rules.specs.Shelf.{refusalOf, shelfAfter, emptyCall, addCall, removeCall, listCall, firstFitCall};
+ghost use Rattle.shelf_rules.specs.Lookup.{lookupCall};
 ghost use Rattle.shelf_rules.specs.Exported.{foundPart, firstFit};
 ghost use Rattle.shelf.specs.Views.{changeOf, listingOf};
 ghost use Rattle.first_fit.specs.Views.{fitOf};
 ghost use Rattle.maluwesi_shelf.specs.Views.{foundIs, fitIs};
 use first_fit::Fit;
 use first_fit::first_fit;
+use lookup::lookup;
 use range::Mode;
 use range::NO_MODE;
 use range::mode_of;
@@ -101,7 +103,7 @@ pub extern "C" fn maluwesi_shelf_remove(shelf: &mut [u8], code: u16) -> u64
     change_number(remove(shelf, code))
 }
 
-// ---- the listing, and first fit
+// ---- the listing, first fit, and the lookup
 
 #[no_mangle]
 pub extern "C" fn maluwesi_shelf_find(
@@ -125,4 +127,17 @@ pub extern "C" fn maluwesi_shelf_first_fit(
     ensures { λ n. ⌜ fitIs n (now (found .exit)) (now (code .exit)) ≡ firstFit (firstFitCall admits (now (version .entry)) (now (shelf .entry))) ⌝ }
 {
     put_fit(first_fit(shelf, version), found, code)
+}
+
+// As first fit, by the kept triples first.
+#[no_mangle]
+pub extern "C" fn maluwesi_shelf_lookup(
+    shelf: &[u8],
+    version: &[u8],
+    found: &mut u8,
+    code: &mut u16,
+) -> u64
+    ensures { λ n. ⌜ fitIs n (now (found .exit)) (now (code .exit)) ≡ firstFit (lookupCall admits (now (version .entry)) (now (shelf .entry))) ⌝ }
+{
+    put_fit(lookup(shelf, version), found, code)
 }

@@ -9,6 +9,13 @@ use normal_text::normal_text;
 use range::Compat;
 use rangeset::Reading;
 use rangeset::read;
+use rows::COMPARATOR_WORDS;
+
+// How many comparator words are enough for every text, which has at most a row for each of its bytes and one.
+pub const WORDS: usize = COMPARATOR_WORDS * 65536;
+
+// How many words are shown of those that are too many to print: two comparators' rows.
+const LAST_WORDS: usize = COMPARATOR_WORDS * 2;
 
 pub fn put(text: &[u8]) {
     io::write_all(1, text);
@@ -114,10 +121,9 @@ fn put_last_bytes(out: &[u8]) {
     }
 }
 
-// Twelve words.
 fn put_last_words(words: &[u64]) {
-    if words.len() >= 12 {
-        let at = words.len() - 12;
+    if words.len() >= LAST_WORDS {
+        let at = words.len() - LAST_WORDS;
         put_words(&words[at..]);
     }
 }

@@ -100,7 +100,7 @@ fn show_all(
     lent: u64,
     text: &[u8],
     out: &mut [u8; 524288],
-    words: &mut [u64; 393216],
+    words: &mut [u64; printing::WORDS],
     ids: &mut [u64; 98304],
 ) {
     let call = numbers[0];
@@ -161,7 +161,7 @@ fn show_under(numbers: [u64; 9], compat: Compat, lent: u64, text: &[u8], other: 
             lent,
             text,
             &mut [b'_'; 524288],
-            &mut [7u64; 393216],
+            &mut [7u64; printing::WORDS],
             &mut [7u64; 98304],
         );
     }
@@ -206,7 +206,7 @@ fn show_sized(numbers: [u64; 9], text: &[u8], other: &[u8]) {
 }
 
 fn show_long(numbers: [u64; 9], text: &[u8], other: &[u8]) {
-    let mut whole = io::large_buffer();
+    let mut whole = [0u8; 131072];
     let mut second = io::large_buffer();
     lengthen(text, &mut whole);
     lengthen(other, &mut second);

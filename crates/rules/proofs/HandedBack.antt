@@ -10,7 +10,7 @@ use lib.ListN.{length, take, drop}
 use lib.Seq.{take-append-seam}
 use Rattle.rules.specs.Bytes.{pick}
 use Rattle.rules.specs.Expansion.{Compat, Reading}
-use Rattle.rules.specs.Rows.{comparatorWords, identifierWords, placelessReading}
+use Rattle.rules.specs.Rows.{comparatorWidth, comparatorWords, identifierWords, placelessReading}
 use Rattle.rules.specs.NormalText.{spell}
 use Rattle.rules.specs.Answers.{Answer, accepted, refused, unless, longest, reading, comparatorRows, identifierRows, readingCall, readingOutcome, written, comparatorWordsAfter, identifierWordsAfter, normalText, normalTextCall, normalTextOutcome, bytesAfter}
 use Rattle.rules.specs.ReadBack.{readBack}
@@ -59,12 +59,12 @@ start w old now n e h = ap₂ take (sym e) h ∙ take-append-seam w (drop (lengt
 
 -- the rows of a text's reading, at the start of each slice, give it back
 module _ (m : Compat) (t : List ℕ) (rs : Reading) (i : reading m t ≡ accepted rs) (words ids : List ℕ) where
-  pub handed-rows : handedBack t (readingOutcome (accepted rs)) (comparatorWordsAfter (accepted rs) words) (identifierWordsAfter t (accepted rs) ids) ≡ rs
+  pub handed-rows : handedBack t (readingOutcome (accepted rs)) (comparatorWordsAfter m t (accepted rs) words) (identifierWordsAfter t (accepted rs) ids) ≡ rs
   unfolding handedBack readingOutcome comparatorWordsAfter identifierWordsAfter written
   handed-rows = ap₂ (λ cws iws. readBack t cws iws) cs is ∙ read-back m t rs i
     where
-      cs : take (6 * comparatorRows rs) (comparatorWordsAfter (accepted rs) words) ≡ comparatorWords rs
-      cs = start (comparatorWords rs) words _ _ (words-length rs) refl
+      cs : take (comparatorWidth * comparatorRows rs) (comparatorWordsAfter m t (accepted rs) words) ≡ comparatorWords m t
+      cs = start (comparatorWords m t) words _ _ (words-length m t rs i) refl
 
       is : take (3 * identifierRows rs) (identifierWordsAfter t (accepted rs) ids) ≡ identifierWords (length t) rs
       is = start (identifierWords (length t) rs) ids _ _ (names-length (length t) rs) refl
@@ -128,7 +128,7 @@ module _ (m : Compat) (t out : List ℕ) where
 module _ (m m′ : Compat) (t out words ids words′ ids′ : List ℕ) where
   pub calls-round-trip : normalTextOutcome (answered m t out) .refusal ≡ 0 → readingOutcome (called m t words ids) .refusal ≡ 0
       → length (textHandedBack m t out) ≤ longest
-      → readingOutcome (called m t words ids) .comparators ≤ length words′ / 6 → readingOutcome (called m t words ids) .identifiers ≤ length ids′ / 3
+      → readingOutcome (called m t words ids) .comparators ≤ length words′ / comparatorWidth → readingOutcome (called m t words ids) .identifiers ≤ length ids′ / 3
       → (readingOutcome (called m′ (textHandedBack m t out) words′ ids′) ≡ readingOutcome (called m t words ids))
       × (placelessReading (readingHandedBack m′ (textHandedBack m t out) words′ ids′) ≡ placelessReading (readingHandedBack m t words ids))
   unfolding readingOutcome

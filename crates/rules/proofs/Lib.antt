@@ -10,6 +10,7 @@ pub mod Exceeded
 pub mod HighBytes
 pub mod Raised
 pub mod Tables
+pub mod PartialBytes
 pub mod Unread
 pub mod Kept
 pub mod ReadIn
@@ -30,6 +31,11 @@ pub mod Once
 pub mod Following
 pub mod StepLeft
 pub mod WalkLaws
+pub mod ExtentLaws
+pub mod DerivedExtentsLaws
+pub mod RowPlaces
+pub mod AlikeExtents
+pub mod ExtentSteps
 pub mod StepNames
 pub mod Tallies
 pub mod ReadingCall
@@ -41,6 +47,7 @@ pub mod VersionSound
 pub mod VersionComplete
 pub mod VersionAccepted
 pub mod PrecedenceLaws
+pub mod DigitOrder
 pub mod AdmissionLaws
 pub mod Bound
 pub mod PlainformLaws

@@ -9,19 +9,21 @@ use mathlib.Core.Bool.{true, false}
 use mathlib.Core.List.{List, [], map}
 use lib.ListN.{length}
 use Rattle.rules.specs.Lists.{each, All, Some}
-use Rattle.rules.specs.Bytes.{bytes, largest}
-use Rattle.rules.specs.Syntax.{Range, componentsRead}
-use Rattle.rules.specs.Grammar.{ReadsText}
+use Rattle.rules.specs.Bytes.{bytes, isDigit, value, largest}
+use Rattle.rules.specs.Syntax.{Range, text, ofDigits, componentsRead}
+use Rattle.rules.specs.Grammar.{ReadsNumber, ReadsText}
 use Rattle.rules.specs.Parse.{ok, readText}
 use Rattle.rules.specs.Expansion.{Compat, Reading, Adds, pieces}
-use Rattle.rules.specs.Rows.{comparatorWords, identifierWords, allIdentifiers, InText, placelessReading}
+use Rattle.rules.specs.Extents.{textExtents}
+use Rattle.rules.specs.DerivedExtents.{extentsOf}
+use Rattle.rules.specs.Rows.{comparatorWidth, comparatorWords, RowsInText, identifierWords, allIdentifiers, InText, placelessReading}
 use Rattle.rules.specs.NormalText.{spell}
 use Rattle.rules.specs.Answers.{accepted, refused, longest, rangeFits, reading, normalText, readingCall, readingOutcome, normalTextCall, normalTextOutcome}
 use Rattle.rules.specs.Equality.{readingHandedBack, textHandedBack}
 use Rattle.rules.specs.Alike.{Alike, plain}
 use Rattle.rules.specs.ReadBack.{readBack}
 use Rattle.rules.specs.Plainform.{withoutNewline, modeLines, longestInput, plainform, inputSheet, outputOf, outputGiven}
-use Rattle.rules.specs.Examples.{benchSheet, worked, expected, answered, workedRows, said, given, rowsAnswered, rowsExpected}
+use Rattle.rules.specs.Examples.{benchSheet, worked, expected, answered, workedRows, workedItems, said, given, rowsAnswered, rowsExpected, itemsAnswered, itemsExpected}
 use Rattle.rules.proofs.Sound as Sound
 use Rattle.rules.proofs.Complete as Complete
 use Rattle.rules.proofs.Accepted as Accepted
@@ -30,12 +32,15 @@ use Rattle.rules.proofs.Exceeded as Exceeded
 use Rattle.rules.proofs.Raised as Raised
 use Rattle.rules.proofs.Tables as Tables
 use Rattle.rules.proofs.Unread as Unread
+use Rattle.rules.proofs.AlikeExtents as AlikeExtents
 use Rattle.rules.proofs.RoundTrip as RoundTrip
 use Rattle.rules.proofs.HandedBack as HandedBack
 use Rattle.rules.proofs.ReadBackLaws as ReadBackLaws
 use Rattle.rules.proofs.Places as Places
+use Rattle.rules.proofs.RowPlaces as RowPlaces
+use Rattle.rules.proofs.DerivedExtentsLaws as DerivedExtentsLaws
 use Rattle.rules.specs.Version.{Version, placelessVersion, ReadsVersion, readVersion}
-use Rattle.rules.specs.Precedence.{less, equal, greater, precedence}
+use Rattle.rules.specs.Precedence.{less, equal, greater, compareNumbers, compareIdentifiers, precedence}
 use Rattle.rules.specs.Admission.{admits, versionFits, versionOf, admissionCall}
 use Rattle.rules.specs.Admits.{verdictLine, answerLine, sessions, sessionOutput, sessionGiven, rangeLines}
 use Rattle.rules.specs.AdmissionExamples.{chain, comparisons, orderExpected, orderAnswered, admissions, admissionExpected, admissionAnswered}
@@ -46,6 +51,7 @@ use Rattle.rules.proofs.VersionSound as VersionSound
 use Rattle.rules.proofs.VersionComplete as VersionComplete
 use Rattle.rules.proofs.VersionAccepted as VersionAccepted
 use Rattle.rules.proofs.PrecedenceLaws as PrecedenceLaws
+use Rattle.rules.proofs.DigitOrder as DigitOrder
 use Rattle.rules.proofs.AdmissionLaws as AdmissionLaws
 use Rattle.rules.proofs.PlainformLaws as PlainformLaws
 use Rattle.rules.proofs.AdmitsLaws as AdmitsLaws
@@ -101,10 +107,19 @@ worked-examples = Tables.tables .worked-examples
 pub worked-rows : map rowsAnswered workedRows ≡ map rowsExpected workedRows
 worked-rows = Tables.tables .worked-rows
 
--- ---- 5. Two accepted texts that are alike but for bytes behind a wildcard in the same partial have the same reading, places included.
+-- and the place and length of the item that each comparator comes from
+pub worked-items : map itemsAnswered workedItems ≡ map itemsExpected workedItems
+worked-items = Tables.tables .worked-items
+
+-- ---- 5. Two accepted texts that are alike but for bytes behind a wildcard in the same partial have the same reading, places included, and the same
+-- comparator words, so that words seven and eight of each row are the same too.
 
 pub alike : (m : Compat) (t t′ : List ℕ) (rs rs′ : Reading) → Alike plain t t′ → reading m t ≡ accepted rs → reading m t′ ≡ accepted rs′ → rs ≡ rs′
 alike = Unread.alike
+
+pub alike-words : (m : Compat) (t t′ : List ℕ) (rs rs′ : Reading) → Alike plain t t′ → reading m t ≡ accepted rs → reading m t′ ≡ accepted rs′
+    → comparatorWords m t ≡ comparatorWords m t′
+alike-words = AlikeExtents.alike-words
 
 pub alike-length : (t t′ : List ℕ) → Alike plain t t′ → length t ≡ length t′
 alike-length t t′ h = Unread.alike-length h
@@ -132,7 +147,7 @@ pub calls-round-trip : (m m′ : Compat) (t out words ids words′ ids′ : List
     → normalTextOutcome (normalTextCall m t (length out)) .refusal ≡ 0
     → readingOutcome (readingCall m t (length words) (length ids)) .refusal ≡ 0
     → length (textHandedBack m t out) ≤ longest
-    → readingOutcome (readingCall m t (length words) (length ids)) .comparators ≤ length words′ / 6
+    → readingOutcome (readingCall m t (length words) (length ids)) .comparators ≤ length words′ / comparatorWidth
     → readingOutcome (readingCall m t (length words) (length ids)) .identifiers ≤ length ids′ / 3
     → (readingOutcome (readingCall m′ (textHandedBack m t out) (length words′) (length ids′)) ≡ readingOutcome (readingCall m t (length words) (length ids)))
     × (placelessReading (readingHandedBack m′ (textHandedBack m t out) words′ ids′) ≡ placelessReading (readingHandedBack m t words ids))
@@ -150,7 +165,7 @@ calls-equal = HandedBack.calls-equal
 
 -- ---- 7. The words of the rows, with the text, determine the reading.
 
-pub read-back : (m : Compat) (t : List ℕ) (rs : Reading) → reading m t ≡ accepted rs → readBack t (comparatorWords rs) (identifierWords (length t) rs) ≡ rs
+pub read-back : (m : Compat) (t : List ℕ) (rs : Reading) → reading m t ≡ accepted rs → readBack t (comparatorWords m t) (identifierWords (length t) rs) ≡ rs
 read-back = ReadBackLaws.read-back
 
 -- ---- 8. Each text identifier of an accepted reading lies within the text, where its bytes stand.
@@ -203,6 +218,16 @@ precedence-turned = PrecedenceLaws.turned-less PrecedenceLaws.precedence-ordered
 
 pub precedence-transitive : (u v w : Version) → precedence u v ≡ less → precedence v w ≡ less → precedence u w ≡ less
 precedence-transitive = PrecedenceLaws.transitive PrecedenceLaws.precedence-ordered
+
+-- Semantic Versioning 2.0.0's rule 11 for identifiers of digits, as ranges and versions have them: they compare "by number at any length", though
+-- those above the largest number are read as texts, and are "below all others" (02, N4).
+pub digits-by-number : {s w r s′ w′ r′ : List ℕ} → ReadsNumber s w r → ReadsNumber s′ w′ r′ → (left left′ : ℕ)
+    → compareIdentifiers (ofDigits left w) (ofDigits left′ w′) ≡ compareNumbers (value w) (value w′)
+digits-by-number = DigitOrder.digits-by-number
+
+pub digits-below : {s w r : List ℕ} → ReadsNumber s w r → (w′ : List ℕ) → each isDigit w′ ≡ false → (left left′ : ℕ)
+    → compareIdentifiers (ofDigits left w) (text left′ w′) ≡ less
+digits-below = DigitOrder.digits-below
 
 -- the chain of Semantic Versioning 2.0.0's own example, and further comparisons
 pub precedence-chain : map orderAnswered chain ≡ map orderExpected chain
@@ -294,3 +319,14 @@ byte-classes = Tables.tables .byte-classes
 
 pub all-limits : map said limits ≡ map given limits
 all-limits = Tables.tables .all-limits
+
+-- ---- 17. Each comparator row's place and length, words seven and eight, lie in the text.
+
+pub rows-in-text : (m : Compat) (t : List ℕ) → RowsInText (length t) (comparatorWords m t)
+rows-in-text = RowPlaces.rows-in-text
+
+-- ---- 18. The places and lengths are those of the grammar's items: what the rows of a text take them from are the extents of the items of its
+-- derivation.
+
+pub grammar-extents : {t : List ℕ} {rs : List Range} (d : ReadsText t rs) → textExtents t ≡ ok (extentsOf d) []
+grammar-extents = DerivedExtentsLaws.grammar-extents

@@ -12,7 +12,7 @@ use Rattle.rules.specs.Bytes.{largest, pick}
 use Rattle.rules.specs.Syntax.{Partial, Item, item, Range, nothing, items, hyphen}
 use Rattle.rules.specs.Parse.{Result, fail, ok, readText}
 use Rattle.rules.specs.Expansion.{Compat, majorOf, minorOf, patchOf, Comparator, comparator, Reading, expand}
-use Rattle.rules.specs.Rows.{comparatorWords, allIdentifiers, identifierWords}
+use Rattle.rules.specs.Rows.{comparatorWidth, comparatorWords, allIdentifiers, identifierWords}
 use Rattle.rules.specs.NormalText.{spell}
 
 pub data Answer (A : Type 0) : Type 0 where
@@ -109,11 +109,11 @@ unfoldable pub identifierRows : Reading → ℕ
 unfolding allIdentifiers
 identifierRows rs = length (allIdentifiers rs)
 
--- "5. .. The comparator rows needed exceed the comparator words divided by 6, rounded down." "6. .. The identifier rows needed exceed the
--- identifier words divided by 3, rounded down." The numbers are how many words are lent.
+-- "5. .. The comparator rows needed exceed the comparator words divided by 6, rounded down."; "Refusal 5 now divides the comparator words by 8."
+-- (02, N2) "6. .. The identifier rows needed exceed the identifier words divided by 3, rounded down." The numbers are how many words are lent.
 unfoldable pub readingCall : Compat → List ℕ → ℕ → ℕ → Answer Reading
 unfolding reading identifierRows
-readingCall m t cw iw = unless 6 (λ rs. leb (identifierRows rs) (iw / 3)) (unless 5 (λ rs. leb (comparatorRows rs) (cw / 6)) (reading m t))
+readingCall m t cw iw = unless 6 (λ rs. leb (identifierRows rs) (iw / 3)) (unless 5 (λ rs. leb (comparatorRows rs) (cw / comparatorWidth)) (reading m t))
 
 -- "A refused call hands back its number and zero counts"; an accepted one has the number 0
 pub record Outcome : Type 0 where
@@ -132,10 +132,10 @@ unfoldable pub written : {A : Type 0} → (A → List ℕ) → Answer A → List
 written f (refused n) old = old
 written f (accepted a) old = f a ++ drop (length (f a)) old
 
--- the lent comparator words after the call, and the lent identifier words
-unfoldable pub comparatorWordsAfter : Answer Reading → List ℕ → List ℕ
+-- the lent comparator words after a call that reads t under m, and the lent identifier words
+unfoldable pub comparatorWordsAfter : Compat → List ℕ → Answer Reading → List ℕ → List ℕ
 unfolding written comparatorWords
-comparatorWordsAfter a old = written comparatorWords a old
+comparatorWordsAfter m t a old = written (λ rs. comparatorWords m t) a old
 
 unfoldable pub identifierWordsAfter : List ℕ → Answer Reading → List ℕ → List ℕ
 unfolding written identifierWords

@@ -36,32 +36,33 @@ pub data Reads : Type 0 where
 -- refused whatever is lent
 unfoldable pub readingCalls : List Reads
 readingCalls =
-    reads npm "^1.2.3-a.0 || <2" (nines 20) (nines 7) (counts 2 3 2)
-    (0 ∷ 3 ∷ 1 ∷ 2 ∷ 3 ∷ 2 ∷ 0 ∷ 0 ∷ 2 ∷ 0 ∷ 0 ∷ 0 ∷ 1 ∷ 0 ∷ 2 ∷ 0 ∷ 0 ∷ 0 ∷ 9 ∷ 9 ∷ []) (1 ∷ 7 ∷ 1 ∷ 0 ∷ 0 ∷ 0 ∷ 9 ∷ [])
-    ∷ reads cargo "1.2.3-a" (nines 12) (nines 3) (counts 1 2 1) (0 ∷ 3 ∷ 1 ∷ 2 ∷ 3 ∷ 1 ∷ 0 ∷ 0 ∷ 2 ∷ 0 ∷ 0 ∷ 0 ∷ []) (1 ∷ 6 ∷ 1 ∷ [])
-    ∷ reads cargo "1.2.3-a" (nines 11) (nines 3) (refusedWith 5) (nines 11) (nines 3)
-    ∷ reads npm "1.2.3-a" (nines 6) (nines 3) (counts 1 1 1) (0 ∷ 4 ∷ 1 ∷ 2 ∷ 3 ∷ 1 ∷ []) (1 ∷ 6 ∷ 1 ∷ [])
-    ∷ reads npm "1.2.3-a" (nines 6) (nines 2) (refusedWith 6) (nines 6) (nines 2)
-    ∷ reads npm "1.2.3-a" (nines 5) (nines 2) (refusedWith 5) (nines 5) (nines 2)
-    ∷ reads npm "1.2.3-a.b" (nines 6) (nines 5) (refusedWith 6) (nines 6) (nines 5)
+    reads npm "^1.2.3-a.0 || <2" (nines 26) (nines 7) (counts 2 3 2)
+    (0 ∷ 3 ∷ 1 ∷ 2 ∷ 3 ∷ 2 ∷ 0 ∷ 10 ∷ 0 ∷ 0 ∷ 2 ∷ 0 ∷ 0 ∷ 0 ∷ 0 ∷ 10 ∷ 1 ∷ 0 ∷ 2 ∷ 0 ∷ 0 ∷ 0 ∷ 14 ∷ 2 ∷ 9 ∷ 9 ∷ []) (1 ∷ 7 ∷ 1 ∷ 0 ∷ 0 ∷ 0 ∷ 9 ∷ [])
+    ∷ reads cargo "1.2.3-a" (nines 16) (nines 3) (counts 1 2 1)
+    (0 ∷ 3 ∷ 1 ∷ 2 ∷ 3 ∷ 1 ∷ 0 ∷ 7 ∷ 0 ∷ 0 ∷ 2 ∷ 0 ∷ 0 ∷ 0 ∷ 0 ∷ 7 ∷ []) (1 ∷ 6 ∷ 1 ∷ [])
+    ∷ reads cargo "1.2.3-a" (nines 15) (nines 3) (refusedWith 5) (nines 15) (nines 3)
+    ∷ reads npm "1.2.3-a" (nines 8) (nines 3) (counts 1 1 1) (0 ∷ 4 ∷ 1 ∷ 2 ∷ 3 ∷ 1 ∷ 0 ∷ 7 ∷ []) (1 ∷ 6 ∷ 1 ∷ [])
+    ∷ reads npm "1.2.3-a" (nines 8) (nines 2) (refusedWith 6) (nines 8) (nines 2)
+    ∷ reads npm "1.2.3-a" (nines 7) (nines 2) (refusedWith 5) (nines 7) (nines 2)
+    ∷ reads npm "1.2.3-a.b" (nines 8) (nines 5) (refusedWith 6) (nines 8) (nines 5)
     ∷ reads npm "1,2" [] [] (refusedWith 2) [] []
-    ∷ reads npm "1,2" (nines 12) (nines 3) (refusedWith 2) (nines 12) (nines 3)
-    ∷ reads npm "18446744073709551616" (nines 12) [] (refusedWith 3) (nines 12) []
+    ∷ reads npm "1,2" (nines 16) (nines 3) (refusedWith 2) (nines 16) (nines 3)
+    ∷ reads npm "18446744073709551616" (nines 16) [] (refusedWith 3) (nines 16) []
     ∷ reads npm "18446744073709551615" (nines 1) [] (refusedWith 4) (nines 1) []
     ∷ []
 
 unfoldable pub readsAnswered : Reads → Outcome × List ℕ × List ℕ
 unfolding readingCall readingOutcome comparatorWordsAfter identifierWordsAfter
 readsAnswered (reads m t cws iws o cws′ iws′) =
-    let a = readingCall m (bytes t) (length cws) (length iws) in (readingOutcome a, comparatorWordsAfter a cws, identifierWordsAfter (bytes t) a iws)
+    let a = readingCall m (bytes t) (length cws) (length iws) in (readingOutcome a, comparatorWordsAfter m (bytes t) a cws, identifierWordsAfter (bytes t) a iws)
 
 abbrev pub readsExpected : Reads → Outcome × List ℕ × List ℕ
 readsExpected (reads m t cws iws o cws′ iws′) = (o, cws′, iws′)
 
--- the reading that is handed back where 27 words and 10 are lent, spelled; a refused call hands back nothing
+-- the reading that is handed back where 35 words and 10 are lent, spelled; a refused call hands back nothing
 unfoldable pub readOf : String → List ℕ
 unfolding readingHandedBack spell
-readOf t = spell (readingHandedBack npm (bytes t) (nines 27) (nines 10))
+readOf t = spell (readingHandedBack npm (bytes t) (nines 35) (nines 10))
 
 unfoldable pub readings : List (List ℕ × List ℕ)
 unfolding readOf
@@ -131,13 +132,13 @@ pub data Rereads : Type 0 where
 -- a byte and a word more than are needed; just enough; one less of each; and a text that is refused
 unfoldable pub rereadCalls : List Rereads
 rereadCalls =
-    rereads cargo npm "1.2.3-a" "_________________" (nines 13) (nines 4) neither (counts 1 2 1)
-    ">=1.2.3-a <2.0.0_" (0 ∷ 3 ∷ 1 ∷ 2 ∷ 3 ∷ 1 ∷ 0 ∷ 0 ∷ 2 ∷ 0 ∷ 0 ∷ 0 ∷ 9 ∷ []) (1 ∷ 8 ∷ 1 ∷ 9 ∷ [])
-    ∷ rereads npm cargo "1.2.3-a" "________" (nines 6) (nines 3) neither (counts 1 1 1) "=1.2.3-a" (0 ∷ 4 ∷ 1 ∷ 2 ∷ 3 ∷ 1 ∷ []) (1 ∷ 7 ∷ 1 ∷ [])
-    ∷ rereads npm cargo "1.2.3-a" "________" (nines 6) (nines 2) itsNormalText (refusedWith 6) "________" (nines 6) (nines 2)
-    ∷ rereads npm cargo "1.2.3-a" "________" (nines 5) (nines 2) itsNormalText (refusedWith 5) "________" (nines 5) (nines 2)
-    ∷ rereads npm cargo "1.2.3-a" "_______" (nines 5) (nines 2) theText (refusedWith 7) "_______" (nines 5) (nines 2)
-    ∷ rereads npm cargo "1,2" "_______" (nines 5) (nines 2) theText (refusedWith 2) "_______" (nines 5) (nines 2)
+    rereads cargo npm "1.2.3-a" "_________________" (nines 17) (nines 4) neither (counts 1 2 1)
+    ">=1.2.3-a <2.0.0_" (0 ∷ 3 ∷ 1 ∷ 2 ∷ 3 ∷ 1 ∷ 0 ∷ 9 ∷ 0 ∷ 0 ∷ 2 ∷ 0 ∷ 0 ∷ 0 ∷ 10 ∷ 6 ∷ 9 ∷ []) (1 ∷ 8 ∷ 1 ∷ 9 ∷ [])
+    ∷ rereads npm cargo "1.2.3-a" "________" (nines 8) (nines 3) neither (counts 1 1 1) "=1.2.3-a" (0 ∷ 4 ∷ 1 ∷ 2 ∷ 3 ∷ 1 ∷ 0 ∷ 8 ∷ []) (1 ∷ 7 ∷ 1 ∷ [])
+    ∷ rereads npm cargo "1.2.3-a" "________" (nines 8) (nines 2) itsNormalText (refusedWith 6) "________" (nines 8) (nines 2)
+    ∷ rereads npm cargo "1.2.3-a" "________" (nines 7) (nines 2) itsNormalText (refusedWith 5) "________" (nines 7) (nines 2)
+    ∷ rereads npm cargo "1.2.3-a" "_______" (nines 7) (nines 2) theText (refusedWith 7) "_______" (nines 7) (nines 2)
+    ∷ rereads npm cargo "1,2" "_______" (nines 7) (nines 2) theText (refusedWith 2) "_______" (nines 7) (nines 2)
     ∷ []
 
 unfoldable pub rereadsAnswered : Rereads → RereadOutcome × List ℕ × List ℕ × List ℕ
@@ -210,7 +211,7 @@ rereadNumbered =
     (rereadNumbers (rereadOutcome (rereadUnder 0 1 (λ m m′. normalRefused 5))), record { outcome = refusedWith 5; normal = 1 })
     ∷ (rereadNumbers (rereadOutcome (rereadUnder 0 1 (λ m m′. textRefused 7))), record { outcome = refusedWith 7; normal = 0 })
     ∷ (rereadNumbers (rereadOutcome (rereadUnder 0 2 (λ m m′. normalRefused 5))), record { outcome = refusedWith 255; normal = 0 })
-    ∷ (rereadNumbers (rereadOutcome (rereadUnder 1 0 (λ m m′. rereadCall m m′ (bytes "1.2.3") 6 6 0))), record { outcome = counts 1 1 0; normal = 0 })
+    ∷ (rereadNumbers (rereadOutcome (rereadUnder 1 0 (λ m m′. rereadCall m m′ (bytes "1.2.3") 6 8 0))), record { outcome = counts 1 1 0; normal = 0 })
     ∷ []
 
 -- where a part begins, and its size

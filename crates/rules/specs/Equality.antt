@@ -8,7 +8,7 @@ use mathlib.Core.List.{List, [], _∷_}
 use lib.Dec.{eqb}
 use lib.ListN.{length, take}
 use Rattle.rules.specs.Expansion.{Compat, Reading}
-use Rattle.rules.specs.Rows.{placelessReading}
+use Rattle.rules.specs.Rows.{comparatorWidth, placelessReading}
 use Rattle.rules.specs.NormalText.{spell}
 use Rattle.rules.specs.Answers.{Answer, accepted, refused, mapAnswer, longest, reading, comparatorRows, identifierRows, readingCall, Outcome, readingOutcome, written, comparatorWordsAfter, identifierWordsAfter, normalTextCall, normalTextOutcome, bytesAfter, andThen}
 use Rattle.rules.specs.ReadBack.{readBack}
@@ -18,13 +18,13 @@ use Rattle.rules.specs.ReadBack.{readBack}
 -- the reading that a call hands back of the text t: by its counts, and by that many rows from the start of each slice
 unfoldable pub handedBack : List ℕ → Outcome → List ℕ → List ℕ → Reading
 unfolding readBack
-handedBack t o words ids = readBack t (take (6 * o .comparators) words) (take (3 * o .identifiers) ids)
+handedBack t o words ids = readBack t (take (comparatorWidth * o .comparators) words) (take (3 * o .identifiers) ids)
 
 -- that of the reading call, where the lent words held these
 unfoldable pub readingHandedBack : Compat → List ℕ → List ℕ → List ℕ → Reading
 unfolding handedBack readingCall readingOutcome comparatorWordsAfter identifierWordsAfter
 readingHandedBack m t words ids =
-    let a = readingCall m t (length words) (length ids) in handedBack t (readingOutcome a) (comparatorWordsAfter a words) (identifierWordsAfter t a ids)
+    let a = readingCall m t (length words) (length ids) in handedBack t (readingOutcome a) (comparatorWordsAfter m t a words) (identifierWordsAfter t a ids)
 
 -- the bytes that the normal text call hands back, where the lent bytes held these: as many as its length, from the start
 unfoldable pub textHandedBack : Compat → List ℕ → List ℕ → List ℕ
@@ -33,25 +33,25 @@ textHandedBack m t out = let a = normalTextCall m t (length out) in take (normal
 
 -- ---- a normal text, read again
 
--- The answer of both calls, one after the other: the normal text with its reading; or the number of the refusal, which is the text's (1 to 4, 7)
+-- The answer of both calls, one after the other: the normal text with its reading under the second mode; or the number of the refusal, which is the text's (1 to 4, 7)
 -- or the normal text's (1, 5, 6).
 pub data Reread : Type 0 where
-  reread : List ℕ → Reading → Reread
+  reread : Compat → List ℕ → Reading → Reread
   textRefused normalRefused : ℕ → Reread
 
-unfoldable pub readAgain : List ℕ → Answer Reading → Reread
-readAgain w (accepted rs) = reread w rs
-readAgain w (refused n) = normalRefused n
+unfoldable pub readAgain : Compat → List ℕ → Answer Reading → Reread
+readAgain m w (accepted rs) = reread m w rs
+readAgain m w (refused n) = normalRefused n
 
-unfoldable pub thenRead : Answer (List ℕ) → (List ℕ → Answer Reading) → Reread
+unfoldable pub thenRead : Compat → Answer (List ℕ) → (List ℕ → Answer Reading) → Reread
 unfolding readAgain
-thenRead (accepted w) f = readAgain w (f w)
-thenRead (refused n) f = textRefused n
+thenRead m (accepted w) f = readAgain m w (f w)
+thenRead m (refused n) f = textRefused n
 
 -- the normal text of t under m, read under m′: of so many lent bytes, comparator words and identifier words
 unfoldable pub rereadCall : Compat → Compat → List ℕ → ℕ → ℕ → ℕ → Reread
 unfolding thenRead normalTextCall readingCall
-rereadCall m m′ t lent cw iw = thenRead (normalTextCall m t lent) (λ w. readingCall m′ w cw iw)
+rereadCall m m′ t lent cw iw = thenRead m′ (normalTextCall m t lent) (λ w. readingCall m′ w cw iw)
 
 -- which of the two is refused
 pub data Refuses : Type 0 where
@@ -64,26 +64,26 @@ pub record RereadOutcome : Type 0 where
 
 unfoldable pub rereadOutcome : Reread → RereadOutcome
 unfolding readingOutcome
-rereadOutcome (reread w rs) = record { refuses = neither; outcome = readingOutcome (accepted rs) }
+rereadOutcome (reread m w rs) = record { refuses = neither; outcome = readingOutcome (accepted rs) }
 rereadOutcome (textRefused n) = record { refuses = theText; outcome = readingOutcome (refused n) }
 rereadOutcome (normalRefused n) = record { refuses = itsNormalText; outcome = readingOutcome (refused n) }
 
 -- the lent bytes and words after the call; a refused one changes none
 unfoldable pub rereadBytesAfter : Reread → List ℕ → List ℕ
 unfolding bytesAfter
-rereadBytesAfter (reread w rs) old = bytesAfter (accepted w) old
+rereadBytesAfter (reread m w rs) old = bytesAfter (accepted w) old
 rereadBytesAfter (textRefused n) old = old
 rereadBytesAfter (normalRefused n) old = old
 
 unfoldable pub rereadComparatorsAfter : Reread → List ℕ → List ℕ
 unfolding comparatorWordsAfter
-rereadComparatorsAfter (reread w rs) old = comparatorWordsAfter (accepted rs) old
+rereadComparatorsAfter (reread m w rs) old = comparatorWordsAfter m w (accepted rs) old
 rereadComparatorsAfter (textRefused n) old = old
 rereadComparatorsAfter (normalRefused n) old = old
 
 unfoldable pub rereadIdentifiersAfter : Reread → List ℕ → List ℕ
 unfolding identifierWordsAfter
-rereadIdentifiersAfter (reread w rs) old = identifierWordsAfter w (accepted rs) old
+rereadIdentifiersAfter (reread m w rs) old = identifierWordsAfter w (accepted rs) old
 rereadIdentifiersAfter (textRefused n) old = old
 rereadIdentifiersAfter (normalRefused n) old = old
 
@@ -91,7 +91,7 @@ rereadIdentifiersAfter (normalRefused n) old = old
 -- reading handed back of the bytes that were written equals that of the text t
 pub record Restores (m : Compat) (t : List ℕ) (lent cw iw : ℕ) (o : Outcome) (bytes words ids : List ℕ) : Type 0 where
   pub equal : (rs : Reading) → reading m t ≡ accepted rs → length (spell rs) ≤ longest → length (spell rs) ≤ lent
-      → comparatorRows rs ≤ cw / 6 → identifierRows rs ≤ iw / 3
+      → comparatorRows rs ≤ cw / comparatorWidth → identifierRows rs ≤ iw / 3
       → (o .refusal ≡ 0) × (placelessReading (handedBack (take (length (spell rs)) bytes) o words ids) ≡ placelessReading rs)
 
 -- ---- two normal texts, compared

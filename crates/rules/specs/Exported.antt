@@ -18,6 +18,14 @@ unfoldable pub under : {A : Type 0} → ℕ → (Compat → Answer A) → Answer
 unfolding modeFrom
 under k f = andThen (modeOf k) f
 
+-- lent words after a call under the mode with this number, which f says for each mode; where it is none, they stay as they were
+abbrev pub afterMode : Answer Compat → (Compat → List ℕ) → List ℕ → List ℕ
+afterMode (accepted m) f old = f m
+afterMode (refused n) f old = old
+
+unfoldable pub wordsUnder : ℕ → (Compat → List ℕ) → List ℕ → List ℕ
+wordsUnder k f old = afterMode (modeOf k) f old
+
 -- the modes with these numbers, and a call under both
 abbrev pub modesOf : ℕ → ℕ → Answer (Compat × Compat)
 modesOf k l = andThen (modeOf k) (λ m. mapAnswer (λ m′. (m, m′)) (modeOf l))

@@ -4,6 +4,8 @@ pub mod Syntax
 pub mod Grammar
 pub mod Parse
 pub mod Expansion
+pub mod Extents
+pub mod DerivedExtents
 pub mod Rows
 pub mod NormalText
 pub mod Answers

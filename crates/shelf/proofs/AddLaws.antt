@@ -21,8 +21,12 @@ use Rattle.rangeset.specs.declared.Reading.the-variants as R
 use Rattle.rangeset.proofs.Outcomes.{refusal-number}
 use Rattle.rules.proofs.Accepted.{reading-number}
 use Rattle.shelf_rules.specs.Table.{rowsOf}
-use Rattle.shelf_rules.specs.Shelf.{capacity, longestText, entryRow, countIn, findCode, isNone, shelfIn, entryReading, withEntry, addCall, refusalOf, shelfAfter}
-use Rattle.shelf_rules.proofs.EntryLaws.{reading-within}
+use Rattle.shelf_rules.specs.Triples.{boundsOf}
+use Rattle.shelf_rules.specs.Shelf.{capacity, longestText, entryRow, keptRow, countIn, findCode, isNone, shelfIn, entryReading, withEntry, addCall, refusalOf, shelfAfter}
+use Rattle.shelf_rules.proofs.EntryLaws.{reading-within, reading-of}
+use Rattle.passes.specs.Views.{Accepts}
+use Rattle.triples.specs.Views.{boundsIs}
+use Rattle.triples.specs.declared.Bounds.{Bounds}
 use Rattle.entries.specs.Views.{Counted, countOf, foundOf}
 use Rattle.entries.specs.declared.Count.{Count}
 use Rattle.entries.specs.declared.Count.the-variants as Count
@@ -75,12 +79,15 @@ module _ (m : Compat) (t : List ℕ) where
   pub text-within : Enterable m t → length t ≤ 96
   text-within o = reading-within m t (o .reads) (o .is)
 
+  pub text-accepts : Enterable m t → Accepts m t
+  text-accepts o = record { reads = o .reads; is = reading-of m t (o .reads) (o .is) }
+
 -- ---- add_read
 
 module _ (l t : List ℕ) (m : Compat) (code n : ℕ) (r : Found) (e : foundOf r ≡ findCode code (rowsOf 100 n (drop 2 (take (length l - 0) (drop 0 l)))))
     (c : Counted l n) (o : Enterable m t) where
   add-as : addCall code m t l
-      ≡ mapAnswer (withEntry (entryRow code m t)) (unless 11 (λ l. ltb (countIn l) capacity) (pick (isNone (foundOf r)) (accepted l) (refused 12)))
+      ≡ mapAnswer (withEntry (entryRow code m t) (keptRow (boundsOf (o .reads)))) (unless 11 (λ l. ltb (countIn l) capacity) (pick (isNone (foundOf r)) (accepted l) (refused 12)))
   unfolding addCall
   add-as = rw (counted-shelf l n c, o .is, found-is l n code r (lent-found l n code r e) c)
 
@@ -106,19 +113,24 @@ module _ (l t : List ℕ) (m : Compat) (code n : ℕ) (r : Found) (e : foundOf r
       full-bytes = refused-bytes l (addCall code m t l) 11 full
 
     module _ (h : n ≡ 256 → ⊥) where
-      added : addCall code m t l ≡ accepted (withEntry (entryRow code m t) l)
+      added : addCall code m t l ≡ accepted (withEntry (entryRow code m t) (keptRow (boundsOf (o .reads))) l)
       added = let i = c .is in let f = c .few in let k : n < 256 = omega arith in add-as ∙ rw (q, i, lt-ltb n 256 k)
 
       pub added-number : 0 ≡ refusalOf (addCall code m t l)
-      added-number = done-number l (addCall code m t l) (withEntry (entryRow code m t) l) added
+      added-number = done-number l (addCall code m t l) (withEntry (entryRow code m t) (keptRow (boundsOf (o .reads))) l) added
 
-      pub added-bytes : (y : List ℕ) → y ≡ withEntry (entryRow code m t) l → y ≡ shelfAfter (addCall code m t l) l
-      added-bytes y p = done-bytes l (addCall code m t l) (withEntry (entryRow code m t) l) y added p
+      pub added-bytes : (b : Bounds) → accepted (boundsIs b) ≡ mapAnswer boundsOf (reading m t) → (y : List ℕ) → y ≡ withEntry (entryRow code m t) (keptRow (boundsIs b)) l
+          → y ≡ shelfAfter (addCall code m t l) l
+      added-bytes b g y p =
+          let a : accepted (boundsIs b) ≡ accepted (boundsOf (o .reads)) = g ∙ ap (mapAnswer boundsOf) (reading-of m t (o .reads) (o .is)) in
+          let k : boundsIs b ≡ boundsOf (o .reads) = cc in
+          done-bytes l (addCall code m t l) (withEntry (entryRow code m t) (keptRow (boundsOf (o .reads))) l) y added
+          (p ∙ ap (λ b. withEntry (entryRow code m t) (keptRow b) l) k)
 
 pub add-few : (l : List ℕ) (n : ℕ) → Counted l n → (n ≡ 256 → ⊥) → n < 256
 add-few l n c h = let f = c .few in omega arith
 
-pub ruleset readAdds = (lent-rows-within, add-few, text-within, there-number, there-bytes, full-number, full-bytes, added-number, added-bytes)
+pub ruleset readAdds = (lent-rows-within, add-few, text-within, text-accepts, there-number, there-bytes, full-number, full-bytes, added-number, added-bytes)
 
 -- ---- add_counted
 

@@ -41,10 +41,10 @@ cleared-all l z n e f =
     rw (a, b, append-nil)
 
 module _ (l : List ℕ) where
-  module _ (h : length l ≡ 25602) where
+  module _ (h : length l ≡ 37890) where
     is-emptied : emptyCall l ≡ accepted emptied
     unfolding emptyCall sized
-    is-emptied = rw (eq-eqb (length l) 25602 h)
+    is-emptied = rw (eq-eqb (length l) 37890 h)
 
     pub empty-number : 0 ≡ refusalOf (emptyCall l)
     empty-number = done-number l (emptyCall l) emptied is-emptied
@@ -55,10 +55,10 @@ module _ (l : List ℕ) where
         let e : y ≡ replicate (length l) 0 = p ∙ cleared-all l z (length l) refl (length-replicate {A = ℕ} (length l) 0) in
         e ∙ ap (λ n. replicate n 0) h ∙ sym (ap (λ a. shelfAfter a l) is-emptied)
 
-  module _ (h : length l ≡ 25602 → ⊥) where
+  module _ (h : length l ≡ 37890 → ⊥) where
     not-emptied : emptyCall l ≡ refused 10
     unfolding emptyCall sized
-    not-emptied = rw (ne-eqb (length l) 25602 h)
+    not-emptied = rw (ne-eqb (length l) 37890 h)
 
     pub not-empty-number : 10 ≡ refusalOf (emptyCall l)
     not-empty-number = refused-number l (emptyCall l) 10 not-emptied

@@ -1,4 +1,4 @@
-// A shelf of parts in lent bytes (02, N1): make empty, add, remove and the listing. "Shelf", "part code", "entry" and "listing" are 02's words.
+// A shelf of parts in lent bytes (02, N1 and N3): make empty, add, remove and the listing. "Shelf", "part code", "entry" and "listing" are 02's words.
 ghost use mathlib.Core.Path.{_≡_};
 ghost use Rattle.rules.specs.Answers.{textOf, readingOutcome};
 ghost use Rattle.range.specs.Views.{compatOf};
@@ -6,6 +6,7 @@ ghost use Rattle.rangeset.specs.Views.{outcomeOf};
 ghost use Rattle.shelf_rules.specs.Shelf.{refusalOf, shelfAfter, entryReading, emptyCall, addCall, removeCall, textCall, listCall};
 ghost use Rattle.entries.specs.Views.{Counted};
 ghost use Rattle.shelf.specs.Views.{Enterable, changeOf, listingOf};
+use bounds::bounds_of;
 use entries::CAPACITY;
 use entries::Count;
 use entries::Found;
@@ -69,7 +70,8 @@ fn add_read(shelf: &mut [u8], n: usize, code: u16, compat: Compat, text: &[u8]) 
             if n == CAPACITY {
                 return Change::Refused(Refusal::Full);
             }
-            add_at(shelf, n, code, compat, text);
+            let b = bounds_of(text, compat);
+            add_at(shelf, n, code, compat, text, b);
             Change::Done
         }
     }

@@ -6,7 +6,7 @@
 //
 //     CALL SIZE CODE MODE LENGTH
 //
-// SIZE is how many bytes are lent: a shelf has 25,602, and they stay from row to row. LENGTH is the text's. CALL is one of
+// SIZE is how many bytes are lent: a shelf has 37,890, and they stay from row to row. LENGTH is the text's. CALL is one of
 //
 //     0  a heading: the text says what the rows behind it are
 //     1  make empty
@@ -15,6 +15,7 @@
 //     4  the listing of the code: the number, the place and the length
 //     5  first fit of the version that is the text: the number, 1 where one fits, and its code
 //     6  no call: the byte at the place CODE becomes MODE
+//     7  the lookup of the version that is the text, as first fit
 ghost use Prim.Native.Nat.{_≤_, _<_};
 ghost use lib.ListN.{length};
 use lexer::read_number;
@@ -22,6 +23,7 @@ use maluwesi_shelf::maluwesi_shelf_add;
 use maluwesi_shelf::maluwesi_shelf_clear;
 use maluwesi_shelf::maluwesi_shelf_find;
 use maluwesi_shelf::maluwesi_shelf_first_fit;
+use maluwesi_shelf::maluwesi_shelf_lookup;
 use maluwesi_shelf::maluwesi_shelf_remove;
 use memory::wide;
 
@@ -75,6 +77,14 @@ fn show_fit(shelf: &[u8], version: &[u8]) {
     put_number(code as u64);
 }
 
+fn show_lookup(shelf: &[u8], version: &[u8]) {
+    let mut found = 1;
+    let mut code = 1;
+    put_number(maluwesi_shelf_lookup(shelf, version, &mut found, &mut code));
+    put_number(found as u64);
+    put_number(code as u64);
+}
+
 fn set_byte(shelf: &mut [u8], at: u16, byte: u8) {
     let i = at as usize;
     if i < shelf.len() {
@@ -90,6 +100,7 @@ fn show(call: u64, shelf: &mut [u8], code: u16, mode: u8, text: &[u8]) {
         3 => put_number(maluwesi_shelf_remove(shelf, code)),
         4 => show_find(shelf, code),
         5 => show_fit(shelf, text),
+        7 => show_lookup(shelf, text),
         _ => set_byte(shelf, code, mode),
     }
 }
@@ -172,10 +183,10 @@ fn run(rows: &mut [u8], memory: &mut [u8]) {
     replay(&rows[..n], memory);
 }
 
-fn run_all(rows: &mut [u8; 16384], memory: &mut [u8; 25603]) {
+fn run_all(rows: &mut [u8; 16384], memory: &mut [u8; 37891]) {
     run(rows, memory);
 }
 
 fn main() {
-    run_all(&mut [0u8; 16384], &mut [0u8; 25603]);
+    run_all(&mut [0u8; 16384], &mut [0u8; 37891]);
 }

@@ -18,9 +18,11 @@ use Rattle.rules.specs.Walk.{mapOption}
 use Rattle.rules.specs.Version.{Version}
 use Rattle.rules.specs.Admission.{Question, admitsIf}
 use Rattle.shelf_rules.specs.Table.{without, lowFirst, numberIn}
-use Rattle.shelf_rules.specs.Shelf.{longestText, entryRow, codeIn, modeIn, lengthIn, textIn, findFrom, findCode, entryReading, entryFits, firstCode}
-use Rattle.shelf_rules.specs.Entries.{Entry, rowOf, WellFormed, withoutCode, textWith, firstEntry}
+use Rattle.shelf_rules.specs.Triples.{boundsOf}
+use Rattle.shelf_rules.specs.Shelf.{longestText, entryRow, keptRow, boundsIn, codeIn, modeIn, lengthIn, textIn, findFrom, findCode, entryReading, entryFits, firstCode}
+use Rattle.shelf_rules.specs.Entries.{Entry, rowOf, keptFrom, keptFor, WellFormed, withoutCode, textWith, firstEntry}
 use Rattle.shelf_rules.proofs.TableLaws.{low-length, low-back}
+use Rattle.shelf_rules.proofs.KeptLaws.{kept-length, bounds-back}
 
 -- ---- two bytes, then others
 
@@ -73,6 +75,14 @@ reading-within m t rs = go (leb (length t) longestText) refl
     go true e q = leb→le (length t) longestText (rw e tt)
     go false e q = let z : _≡_ {A = ℕ} 0 1 = cc in absurd (omega arith)
 
+pub reading-of : (m : Compat) (t : List ℕ) (rs : Reading) → entryReading m t ≡ accepted rs → reading m t ≡ accepted rs
+unfolding entryReading
+reading-of m t rs = go (leb (length t) longestText)
+  where
+    go : (b : Bool) → pick b (reading m t) (refused 1) ≡ accepted rs → reading m t ≡ accepted rs
+    go true q = q
+    go false q = let z : _≡_ {A = ℕ} 0 1 = cc in absurd (omega arith)
+
 module _ (e : Entry) (h : WellFormed e) where
   formed-within : length (e .text) ≤ 96
   formed-within = reading-within (e .mode) (e .text) (h .reads) (h .is)
@@ -80,13 +90,13 @@ module _ (e : Entry) (h : WellFormed e) where
   formed-wide : length (rowOf e) ≡ 100
   formed-wide = entry-length (e .code) (e .mode) (e .text) formed-within
 
-  formed-code : codeIn (rowOf e) ≡ e .code
+  pub formed-code : codeIn (rowOf e) ≡ e .code
   formed-code = entry-code (e .code) (e .mode) (e .text) (h .bits)
 
   formed-text : textIn (rowOf e) ≡ e .text
   formed-text = entry-text (e .code) (e .mode) (e .text) formed-within
 
-  formed-fits : (q : Question) (v : Version) → entryFits q v (rowOf e) ≡ admitsIf q v (reading (e .mode) (e .text))
+  pub formed-fits : (q : Question) (v : Version) → entryFits q v (rowOf e) ≡ admitsIf q v (reading (e .mode) (e .text))
   unfolding entryFits
   formed-fits q v =
       rw (
@@ -97,9 +107,28 @@ module _ (e : Entry) (h : WellFormed e) where
         mode-back (e .mode),
       )
 
+-- ---- what is kept of an entry
+
+module _ (e : Entry) (h : WellFormed e) where
+  pub formed-read : reading (e .mode) (e .text) ≡ accepted (h .reads)
+  formed-read = reading-of (e .mode) (e .text) (h .reads) (h .is)
+
+  formed-kept : keptFor e ≡ keptRow (boundsOf (h .reads))
+  formed-kept = ap keptFrom (h .is)
+
+  formed-kept-wide : length (keptFor e) ≡ 48
+  formed-kept-wide = ap length formed-kept ∙ kept-length (boundsOf (h .reads))
+
+  pub formed-bounds : boundsIn (keptFor e) ≡ boundsOf (h .reads)
+  formed-bounds = ap boundsIn formed-kept ∙ bounds-back (e .mode) (e .text) (h .reads) formed-read
+
 pub formed-rows : {es : List Entry} → All WellFormed es → All (λ e. length e ≡ 100) (map rowOf es)
 formed-rows all[] = all[]
 formed-rows (all∷ {a} h hs) = all∷ (formed-wide a h) (formed-rows hs)
+
+pub formed-kepts : {es : List Entry} → All WellFormed es → All (λ b. length b ≡ 48) (map keptFor es)
+formed-kepts all[] = all[]
+formed-kepts (all∷ {a} h hs) = all∷ (formed-kept-wide a h) (formed-kepts hs)
 
 -- ---- finding a code
 

@@ -8,20 +8,14 @@ use mathlib.Core.List.{List, [], _∷_}
 use native.Mathlib.Omega.{arith}
 use lib.Dec.{leb, eqb, leb→le, eqb→eq}
 use lib.ListN.{length, take, drop}
-use lib.Seq.{take-take, drop-drop}
+use lib.Seq.{drop-drop}
 use Rattle.rules.specs.Bytes.{pick}
 use Rattle.rules.specs.Answers.{Answer, accepted, refused, unless, mapAnswer, orRefused, andThen}
 use Rattle.shelf_rules.specs.Shelf.{shelfSize, capacity, longestText, countIn, lengthIn, textIn, entriesIn, entryAt, findCode, sized, shelfIn, located, Part, textPart, textCall, listCall}
-use Rattle.shelf_rules.proofs.TableLaws.{rows-length, rows-at}
+use Rattle.shelf_rules.proofs.TableLaws.{rows-length, rows-at, take-inside}
 use Rattle.shelf_rules.proofs.EntryLaws.{find-within}
 
 -- ---- a part of a row is a part of the bytes
-
-take-inside : (a n w : ℕ) (b : List ℕ) → a + n ≤ w → take n (drop a (take w b)) ≡ take n (drop a b)
-take-inside zero n w b h = take-take n w b (omega arith)
-take-inside (suc a) n zero b h = absurd (omega arith)
-take-inside (suc a) n (suc w) [] h = refl
-take-inside (suc a) n (suc w) (x ∷ b) h = take-inside a n w b (omega arith)
 
 take-own : (n : ℕ) (b : List ℕ) → take (length (take n b)) b ≡ take n b
 take-own zero b = refl
@@ -107,7 +101,7 @@ module _ (code : ℕ) (l : List ℕ) where
       (λ s c. go s c (findCode code (entriesIn l)) refl)
       (λ q. let z : _≡_ {A = ℕ} 0 1 = cc in absurd (omega arith))
     where
-      go : length l ≡ 25602 → countIn l ≤ 256 → (o : Option ℕ) → findCode code (entriesIn l) ≡ o → listing l o ≡ accepted p → p .place + p .length ≤ length l
+      go : length l ≡ 37890 → countIn l ≤ 256 → (o : Option ℕ) → findCode code (entriesIn l) ≡ o → listing l o ≡ accepted p → p .place + p .length ≤ length l
       go s c none f q = let z : _≡_ {A = ℕ} 0 1 = cc in absurd (omega arith)
       go s c (some k) f q =
           let e : textPart k l ≡ p = cc in

@@ -6,7 +6,7 @@ use mathlib.Core.List.{List, [], _∷_, _++_, map, append-assoc}
 use native.Mathlib.Omega.{arith}
 use native.Mathlib.Nat.{mul-zero, mul-suc, mul-add, mod-add-div, div-lt-iff-lt-mul, pow-zero, pow-suc}
 use lib.ListN.{length, take, drop, getD, replicate, length-append, length-drop, length-replicate, replicate-append-replicate}
-use lib.Seq.{take-add, drop-drop, take-at, drop-at, length-take-le}
+use lib.Seq.{take-add, take-take, drop-drop, take-at, drop-at, length-take-le}
 use Rattle.rules.specs.Lists.{concat, All, all[], all∷}
 use Rattle.shelf_rules.specs.Table.{rowsOf, without, lowFirst, numberIn, rowAdded, rowRemoved, table}
 
@@ -88,6 +88,23 @@ all-without k all[] = all[]
 all-without zero (all∷ h hs) = hs
 all-without (suc k) (all∷ h hs) = all∷ h (all-without k hs)
 
+pub concat-length : (w : ℕ) (es : List (List ℕ)) → All (λ e. length e ≡ w) es → length (concat es) ≡ w * length es
+concat-length w [] all[] = sym (mul-zero w)
+concat-length w (e ∷ es) (all∷ h hs) = length-append e (concat es) ∙ omega (arith, h, concat-length w es hs, more w (length es))
+
+-- as many bytes as before
+pub removed-length : (w n k : ℕ) (b : List ℕ) → k < n → w * n ≤ length b → length (rowRemoved w n k b) ≡ length b
+unfolding rowRemoved
+removed-length w n k b l h =
+    let r = rows-length w n b in
+    let s : length (without k (rowsOf w n b)) ≡ n - 1 = without-length k (rowsOf w n b) (omega arith) ∙ rw r in
+    let c : length (concat (without k (rowsOf w n b))) ≡ w * (n - 1) = concat-length w (without k (rowsOf w n b)) (all-without k (rows-wide w n b h)) ∙ ap (λ i. w * i) s in
+    let i : suc (n - 1) ≡ n = omega arith in
+    let m : w * n ≡ w + w * (n - 1) = rw i at (more w (n - 1)) in
+    let z : List ℕ = replicate w 0 in
+    length-append (concat (without k (rowsOf w n b))) (z ++ drop (w * n) b)
+    ∙ omega (arith, c, m, length-append z (drop (w * n) b), length-replicate {A = ℕ} w 0, length-drop (w * n) b)
+
 -- ---- a number is had back from its bytes
 
 pub low-back : (n v : ℕ) → v < 256 ^ n → numberIn (lowFirst n v) ≡ v
@@ -104,10 +121,6 @@ more-left w c n h = let e : c - n ≡ suc (c - suc n) = omega arith in ap (λ k.
 
 drop-zeros : (w m : ℕ) → drop {A = ℕ} w (replicate (w + m) 0) ≡ replicate m 0
 drop-zeros w m = rw (← replicate-append-replicate) (drop-at (replicate w 0) (replicate m 0) w (length-replicate {A = ℕ} w 0))
-
-pub concat-length : (w : ℕ) (es : List (List ℕ)) → All (λ e. length e ≡ w) es → length (concat es) ≡ w * length es
-concat-length w [] all[] = sym (mul-zero w)
-concat-length w (e ∷ es) (all∷ h hs) = length-append e (concat es) ∙ omega (arith, h, concat-length w es hs, more w (length es))
 
 module _ (w c : ℕ) (es : List (List ℕ)) (h : All (λ e. length e ≡ w) es) where
   pub table-rows : rowsOf w (length es) (table w c es) ≡ es
@@ -143,7 +156,19 @@ module _ (w c : ℕ) (es : List (List ℕ)) (h : All (λ e. length e ≡ w) es) 
       let z : w * (c - (length es - 1)) ≡ w + w * (c - length es) = rw i at (more-left w c (length es - 1) j) in
       rw (table-rows, table-zeros, n, z, ← replicate-append-replicate)
 
+  -- other bytes behind it
+  pub table-rows-then : (r : List ℕ) → rowsOf w (length es) (table w c es ++ r) ≡ es
+  unfolding table
+  table-rows-then r = rw append-assoc (rows-of w es (replicate (w * (c - length es)) 0 ++ r) h)
+
 -- ---- lists
+
+-- a part of a row is a part of the bytes
+pub take-inside : (a n w : ℕ) (b : List ℕ) → a + n ≤ w → take n (drop a (take w b)) ≡ take n (drop a b)
+take-inside zero n w b h = take-take n w b (omega arith)
+take-inside (suc a) n zero b h = absurd (omega arith)
+take-inside (suc a) n (suc w) [] h = refl
+take-inside (suc a) n (suc w) (x ∷ b) h = take-inside a n w b (omega arith)
 
 module _ {A B : Type 0} (f : A → B) where
   pub map-snoc : (l : List A) (a : A) → map f (l ++ (a ∷ [])) ≡ map f l ++ (f a ∷ [])

@@ -10,9 +10,10 @@ use lib.ListN.{length}
 use Rattle.rules.specs.Bytes.{pick}
 use Rattle.rules.specs.Lists.{All}
 use Rattle.rules.specs.Expansion.{Compat, Reading}
-use Rattle.rules.specs.Answers.{accepted}
+use Rattle.rules.specs.Answers.{Answer, accepted, refused}
 use Rattle.shelf_rules.specs.Table.{lowFirst, table}
-use Rattle.shelf_rules.specs.Shelf.{entryWidth, capacity, entryRow, entryReading, emptyCall, addCall, removeCall}
+use Rattle.shelf_rules.specs.Triples.{boundsOf}
+use Rattle.shelf_rules.specs.Shelf.{entryWidth, capacity, keptWidth, entryRow, keptRow, entryReading, emptyCall, addCall, removeCall}
 
 -- "An entry has a part code (16 bits), a mode .. and a range text of at most 96 bytes."
 pub record Entry : Type 0 where
@@ -28,10 +29,19 @@ entry code m t = record { code = code; mode = m; text = t }
 abbrev pub rowOf : Entry → List ℕ
 rowOf e = entryRow (e .code) (e .mode) (e .text)
 
--- "The count stands first in two bytes, then 256 times 100 bytes": zeros behind the last entry
+-- the bytes of its triples, by how its text is read; none of a text that is refused
+abbrev pub keptFrom : Answer Reading → List ℕ
+keptFrom (accepted rs) = keptRow (boundsOf rs)
+keptFrom (refused n) = []
+
+abbrev pub keptFor : Entry → List ℕ
+keptFor e = keptFrom (entryReading (e .mode) (e .text))
+
+-- "The count stands first in two bytes, then 256 times 100 bytes"; the triples "after all the entries and in their order". Zeros behind the last
+-- entry, and behind its triples.
 unfoldable pub shelfOf : List Entry → List ℕ
-unfolding table lowFirst entryRow
-shelfOf es = lowFirst 2 (length es) ++ table entryWidth capacity (map rowOf es)
+unfolding table lowFirst entryRow keptRow boundsOf entryReading
+shelfOf es = lowFirst 2 (length es) ++ (table entryWidth capacity (map rowOf es) ++ table keptWidth capacity (map keptFor es))
 
 -- a code of 16 bits, and a text to which none of 1 to 4 applies, "with 96 as its length limit"
 pub record WellFormed (e : Entry) : Type 0 where

@@ -16,7 +16,7 @@ unfoldable pub foundPart : Answer Part → Found
 foundPart (accepted p) = record { refusal = 0; place = p .place; length = p .length }
 foundPart (refused n) = record { refusal = n; place = 0; length = 0 }
 
--- first fit: the number of the refusal, and 1 with the code of the entry that fits, or 0 and 0 where none does
+-- first fit and the lookup: the number of the refusal, and 1 with the code of the entry that fits, or 0 and 0 where none does
 pub record FirstFit : Type 0 where
   pub refusal : ℕ
   pub found : ℕ

@@ -1,5 +1,5 @@
--- A shelf of parts in lent bytes (02, N1). "Shelf", "part code", "entry", "listing" and "first fit" are 02's words for its bytes and its calls.
--- The definitions read any bytes, also those "that no call built".
+-- A shelf of parts in lent bytes (02, N1 and N3). "Shelf", "part code", "entry", "listing" and "first fit" are 02's words for its bytes and its
+-- calls. The definitions read any bytes, also those "that no call built".
 -- Assumes nothing.
 use Prim.Native.Nat.{ℕ, suc, _+_, _*_, _-_}
 use mathlib.Core.Bool.{Bool, true, false, _&&_}
@@ -13,12 +13,13 @@ use Rattle.rules.specs.Answers.{Answer, accepted, refused, unless, mapAnswer, o
 use Rattle.rules.specs.Version.{Version}
 use Rattle.rules.specs.Admission.{Question, admitsIf, versionOf}
 use Rattle.shelf_rules.specs.Table.{rowsOf, lowFirst, numberIn, rowAdded, rowRemoved}
+use Rattle.shelf_rules.specs.Triples.{Triple, triple, Bounds, boundsOf}
 
 -- ---- sizes
 
--- "lent memory of 25,602 bytes"
+-- "37,890 bytes in all"
 abbrev pub shelfSize : ℕ
-shelfSize = 25602
+shelfSize = 37890
 
 -- "holds at most 256 entries"
 abbrev pub capacity : ℕ
@@ -31,6 +32,17 @@ entryWidth = 100
 -- "a range text of at most 96 bytes"
 abbrev pub longestText : ℕ
 longestText = 96
+
+-- "six 64-bit numbers", and three of them
+abbrev pub keptWidth : ℕ
+keptWidth = 48
+
+abbrev pub tripleWidth : ℕ
+tripleWidth = 24
+
+-- "after all the entries": where the kept triples begin
+abbrev pub keptPlace : ℕ
+keptPlace = 2 + entryWidth * capacity
 
 -- ---- an entry's 100 bytes
 
@@ -53,6 +65,24 @@ lengthIn e = getD e 3 0
 abbrev pub textIn : List ℕ → List ℕ
 textIn e = pick (leb (lengthIn e) longestText) (take (lengthIn e) (drop 4 e)) []
 
+-- ---- the 48 bytes of a lowest and a highest triple
+
+-- "six 64-bit numbers with low bytes first"
+unfoldable pub tripleRow : Triple → List ℕ
+unfolding lowFirst
+tripleRow t = lowFirst 8 (t .major) ++ (lowFirst 8 (t .minor) ++ lowFirst 8 (t .patch))
+
+unfoldable pub keptRow : Bounds → List ℕ
+unfolding tripleRow
+keptRow b = tripleRow (b .low) ++ tripleRow (b .high)
+
+-- of any bytes: the triple that the first 24 are, and the two that the first 48 are
+abbrev pub tripleIn : List ℕ → Triple
+tripleIn k = triple (numberIn (take 8 k)) (numberIn (take 8 (drop 8 k))) (numberIn (take 8 (drop 16 k)))
+
+abbrev pub boundsIn : List ℕ → Bounds
+boundsIn k = record { low = tripleIn k; high = tripleIn (drop tripleWidth k) }
+
 -- ---- the shelf's bytes
 
 -- "The count stands first in two bytes"
@@ -63,6 +93,11 @@ countIn l = numberIn (take 2 l)
 unfoldable pub entriesIn : List ℕ → List (List ℕ)
 unfolding rowsOf numberIn
 entriesIn l = rowsOf entryWidth (countIn l) (drop 2 l)
+
+-- "after all the entries and in their order": the bytes of their triples
+unfoldable pub keptIn : List ℕ → List (List ℕ)
+unfolding rowsOf numberIn
+keptIn l = rowsOf keptWidth (countIn l) (drop keptPlace l)
 
 -- the place of the first entry with this code, of entries that begin at place k: "of equal codes the first is the one listed or removed"
 unfoldable pub findFrom : ℕ → ℕ → List (List ℕ) → Option ℕ
@@ -77,15 +112,21 @@ findCode code es = findFrom 0 code es
 abbrev pub emptied : List ℕ
 emptied = replicate shelfSize 0
 
--- "Entries stand in the order they were added."
-unfoldable pub withEntry : List ℕ → List ℕ → List ℕ
+-- all 256 places of entries
+abbrev pub entryPlaces : List ℕ → List ℕ
+entryPlaces l = take (entryWidth * capacity) (drop 2 l)
+
+-- "Entries stand in the order they were added." The triples are "part of their entry": e is its bytes, and b theirs.
+unfoldable pub withEntry : List ℕ → List ℕ → List ℕ → List ℕ
 unfolding rowAdded lowFirst numberIn
-withEntry e l = lowFirst 2 (suc (countIn l)) ++ rowAdded entryWidth (countIn l) e (drop 2 l)
+withEntry e b l =
+    lowFirst 2 (suc (countIn l)) ++ (rowAdded entryWidth (countIn l) e (entryPlaces l) ++ rowAdded keptWidth (countIn l) b (drop keptPlace l))
 
 -- "remove .. closes the gap so that its space serves again"; it "leaves zeros where the last entry stood"
 unfoldable pub withoutEntry : ℕ → List ℕ → List ℕ
 unfolding rowRemoved lowFirst numberIn
-withoutEntry k l = lowFirst 2 (countIn l - 1) ++ rowRemoved entryWidth (countIn l) k (drop 2 l)
+withoutEntry k l =
+    lowFirst 2 (countIn l - 1) ++ (rowRemoved entryWidth (countIn l) k (entryPlaces l) ++ rowRemoved keptWidth (countIn l) k (drop keptPlace l))
 
 -- ---- refusal 10
 
@@ -125,10 +166,10 @@ isNone (some a) = false
 
 -- "add then gives 1 to 4 for the text ..; then 12 for a code already there on add ..; then 11 for an add to 256 entries"
 unfoldable pub addCall : ℕ → Compat → List ℕ → List ℕ → Answer (List ℕ)
-unfolding shelfIn entryReading findFrom entriesIn withEntry entryRow numberIn
+unfolding shelfIn entryReading findFrom entriesIn withEntry entryRow keptRow boundsOf numberIn
 addCall code m t l =
     andThen (shelfIn l) (λ l. andThen (entryReading m t) (λ rs.
-    mapAnswer (withEntry (entryRow code m t))
+    mapAnswer (withEntry (entryRow code m t) (keptRow (boundsOf rs)))
     (unless 11 (λ l. ltb (countIn l) capacity) (unless 12 (λ l. isNone (findCode code (entriesIn l))) (accepted l)))))
 
 -- an entry's place, or 12 for a code "missing on remove or listing"
