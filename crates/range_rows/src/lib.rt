@@ -128,7 +128,7 @@ fn put_item(s: &[u8], range: u64, words: &mut [u64], ids: &mut [u64], x: Step) -
     }
 }
 
-// The rows of the items behind those whose rows take `first` words and `names` identifier words: from where left bytes are left, at this stage.
+// The rows of the items behind those whose rows take `first` words and `names` identifier words: from where rest bytes are left, at the stage behind.
 fn put_further(
     s: &[u8],
     compat: Compat,

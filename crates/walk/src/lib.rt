@@ -254,8 +254,8 @@ fn after_partial(s: &[u8], stage: Stage, prefix: Prefix) -> Behind
 
 // A piece, expanded: a comparator with the numbers as they stand, under the operator that is kept; and one with the raised component. Its
 // identifiers are count many, and their qualifier begins where from bytes of the text are left. Where a number is above the largest, large;
-// where one cannot be raised, over. Then what stands behind it, where left bytes are left. Its item begins where begin bytes are left, and its
-// partial ends where end are.
+// where one cannot be raised, over. Then what stands behind it, where left bytes are left. It begins where begin
+// bytes are left, with its operator if it has one, and its partial ends where end are.
 pub struct Step {
     pub kept: Kept,
     pub raised: Raised,
