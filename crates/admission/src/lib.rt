@@ -1,4 +1,6 @@
 // Admission: whether a range text admits a version (01, "Admission"). The range text is read by the walk's steps and the version text once.
+#![tactic(auto)]
+
 ghost use Rattle.std.specs.Prelude.{◌≡◌};
 ghost use Rattle.rules.specs.Lists.{each};
 ghost use Rattle.rules.specs.Precedence.{compare_prereleases};
@@ -124,7 +126,7 @@ pub fn admits_held(s: &[u8], compat: Compat, t: &[u8], v: Version) -> bool
 
 // ---- the call
 
-#[derive(Drop)]
+#[derive(Clone, Copy)]
 pub enum Admission {
     Yes,
     No,

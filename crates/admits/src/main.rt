@@ -1,5 +1,7 @@
 // The program `admits`: which versions a range admits. Its arguments are the mode and the range. It reads versions from standard input, one to
 // a line, and writes each line with its answer; or one line, where the range is refused.
+#![tactic(auto)]
+
 ghost use Rattle.std.specs.Prelude.{◌+◌, ◌≤◌, ◌≡◌, length};
 ghost use Rattle.rules.specs.Admits.{verdict_room};
 ghost use Rattle.range.specs.Views.{compat_of};
@@ -12,7 +14,7 @@ use verdicts::{hold, put_refused_range, put_verdict};
 // ---- the answers, in blocks
 
 // How many answers' bytes stand at the start of the block, and whether a write failed.
-#[derive(Drop)]
+#[derive(Clone, Copy)]
 struct Block {
     failed: bool,
     filled: usize,
@@ -53,7 +55,7 @@ fn answer(range: &[u8], compat: Compat, line: &[u8], out: &mut [u8], filled: usi
 // ---- the lines
 
 // Whether to go on, and how many bytes are held of the line that is not ended.
-#[derive(Drop)]
+#[derive(Clone, Copy)]
 struct Progress {
     ended: bool,
     held: usize,

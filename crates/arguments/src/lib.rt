@@ -1,4 +1,6 @@
 // The arguments of the programs that take a mode and a range.
+#![tactic(auto)]
+
 ghost use Rattle.io.specs.Counts.{IsPrefixLen};
 
 use range::{Compat, Mode};

@@ -1,4 +1,6 @@
 // The lowest and the highest triple of a range text (02, N3): one pass over its steps.
+#![tactic(auto)]
+
 ghost use Rattle.std.specs.Prelude.{◌≡◌};
 ghost use Rattle.rules.specs.Answers.{accepted, map_answer, reading};
 ghost use Rattle.partial.specs.Views.{op_of};

@@ -14,7 +14,7 @@ use Rattle.rules.specs.Answers.{Answer, accepted, refused, longest, reading, com
 use Rattle.rules.specs.Equality.{handed_back}
 use Rattle.rules.specs.Exported.{mode_of, under, after_mode, words_under}
 use Rattle.rules.proofs.Accepted.{Decided, long, underivable, large, raised, accepts, decided}
-use Rattle.rules.proofs.ReadBackLaws.{read_back}
+use Rattle.rules.proofs.ReadBackLaws.{read_back_lem}
 use Rattle.rules.proofs.ReadingCall.{call-refused, call-accepts}
 use Rattle.rules.proofs.Equal.{placeless-comparators, placeless-identifiers}
 use Rattle.range.specs.Views.{compat_of}
@@ -66,7 +66,7 @@ module _ (c : Compat) (t words ids : List ℕ) where
   handed-accepted rs e =
       ap (λ x. seen (accepted x))
       (rw (taken (λ rs. comparator_words (mode c) t) rs words (comparator_width * comparator_rows rs) (words-length (mode c) t rs e), taken (identifier_words (length t)) rs ids (3 * identifier_rows rs) (names-length (length t) rs))
-      (read_back (mode c) t rs e))
+      (read_back_lem (mode c) t rs e))
 
   handed-parse : length t ≤ longest → RowsFit (parse c t) (length words) (length ids) → parse c t ≡ handed_of (reading_call (mode c) t (length words) (length ids))
   unfolding seen handed answer_in reading_outcome

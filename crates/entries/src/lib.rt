@@ -1,5 +1,7 @@
 // The entries of a shelf in lent bytes (02, N1), each with its kept triples (N3): how many there are, which one has a part code, where its text
 // stands, one put behind them and one removed. "Shelf", "entry" and "part code" are 02's words.
+#![tactic(auto)]
+
 ghost use Rattle.std.specs.Prelude.{◌≡◌, ◌++◌, ◌+◌, ◌*◌, ◌-◌, ◌≤◌, ◌<◌, length, drop};
 ghost use Rattle.std.proofs.lemmas.List.Edits.{sets};
 ghost use Rattle.rules.specs.Answers.{map_answer};
@@ -35,7 +37,7 @@ pub const KEPT_PLACE: usize = 2 + ENTRY_BYTES * CAPACITY;
 
 // ---- found
 
-#[derive(Drop)]
+#[derive(Clone, Copy)]
 pub enum Count {
     Entries(usize),
     NotShelf,
@@ -62,7 +64,7 @@ pub fn code_at(shelf: &[u8], k: usize) -> u16
     two_at(shelf, 2 + ENTRY_BYTES * k)
 }
 
-#[derive(Drop)]
+#[derive(Clone, Copy)]
 pub enum Found {
     At(usize),
     Nothing,
@@ -86,7 +88,7 @@ pub fn find_code(shelf: &[u8], n: usize, code: u16) -> Found
 // ---- read
 
 // Where a text stands in the shelf, and how long it is.
-#[derive(Drop)]
+#[derive(Clone, Copy)]
 pub struct Part {
     pub place: usize,
     pub length: usize,

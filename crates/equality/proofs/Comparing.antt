@@ -16,7 +16,7 @@ use Rattle.rules.specs.Answers.{Answer, accepted, refused, text_of, reading, nor
 use Rattle.rules.specs.Equality.{same_bytes, Texts, texts_call, texts_equal, first_after, second_after, Tells}
 use Rattle.rules.proofs.NormalTextCall.{normal-accepts}
 use Rattle.rules.proofs.RoundTrip.{same-reading}
-use Rattle.rules.proofs.Equal.{same_bytes}
+use Rattle.rules.proofs.Equal.{same_bytes_lem}
 use Rattle.rangeset.specs.Views.{number_of}
 use Rattle.rangeset.specs.declared.Refusal.{Refusal}
 use Rattle.normal_text.specs.Views.{length_of}
@@ -142,11 +142,11 @@ module _ (m : Compat) (s : List ℕ) (lent : ℕ) (m' : Compat) (t : List ℕ) (
         equal =
             λ rs rs' e e' h h' p.
             q ∙ ap texts_equal (texts-accepted rs rs' e e' h h')
-            ∙ ap accepted ((same_bytes (spell rs) (spell rs')).1 ((same-reading m m' s t rs rs' e e').0 p));
+            ∙ ap accepted ((same_bytes_lem (spell rs) (spell rs')).1 ((same-reading m m' s t rs rs' e e').0 p));
         different =
             λ rs rs' e e' h h' z.
             q ∙ ap texts_equal (texts-accepted rs rs' e e' h h')
-            ∙ ap accepted (is_false (same_bytes (spell rs) (spell rs')) (λ k. z ((same-reading m m' s t rs rs' e e').1 ((same_bytes (spell rs) (spell rs')).0 k))));
+            ∙ ap accepted (is_false (same_bytes (spell rs) (spell rs')) (λ k. z ((same-reading m m' s t rs rs' e e').1 ((same_bytes_lem (spell rs) (spell rs')).0 k))));
       }
     where
       is_false : (b : Bool) → (b ≡ true → ⊥) → b ≡ false

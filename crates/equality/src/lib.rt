@@ -1,4 +1,6 @@
 // Requirement 3 in calls: a normal text read again under another mode, and two texts whose readings are compared by their normal texts.
+#![tactic(auto)]
+
 ghost use Rattle.std.specs.Prelude.{◌≡◌, length};
 ghost use Rattle.rules.specs.Answers.{text_of, reading, reading_outcome, normal_text, normal_text_outcome, bytes_after};
 ghost use Rattle.rules.specs.Equality.{reread_call, reread_outcome, reread_bytes_after, reread_comparators_after, reread_identifiers_after, Restores, same_bytes, texts_call, texts_equal, first_after, second_after, Tells};
@@ -28,7 +30,7 @@ fn write(s: &[u8], compat: Compat, out: &mut [u8]) -> usize
 // ---- a normal text, read again
 
 // The counts; or a refusal, of the text (1 to 4, 7) or of its normal text (1, 5, 6).
-#[derive(Drop)]
+#[derive(Clone, Copy)]
 pub enum Reread {
     Accepted(Counts),
     TextRefused(Refusal),
@@ -120,7 +122,7 @@ fn same_bytes(a: &[u8], b: &[u8]) -> bool
 }
 
 // Yes or no, or a refusal of the first text or else of the second.
-#[derive(Drop)]
+#[derive(Clone, Copy)]
 pub enum Equality {
     Equal,
     Different,

@@ -1,5 +1,7 @@
 // First fit (02, N1): the part code of the first entry of a shelf whose text admits a version. "Shelf", "part code", "entry" and "first fit" are
 // 02's words.
+#![tactic(auto)]
+
 ghost use Rattle.std.specs.Prelude.{◌≡◌, ◌+◌, ◌*◌, ◌≤◌, length, drop};
 ghost use Rattle.rules.specs.Answers.{accepted};
 ghost use Rattle.rules.specs.Admission.{admits};
@@ -16,7 +18,7 @@ use range::{Mode, mode_of};
 use rangeset::Refusal;
 use version::{Version, VersionText, read_version};
 
-#[derive(Drop)]
+#[derive(Clone, Copy)]
 pub enum Fit {
     Code(u16),
     Nothing,

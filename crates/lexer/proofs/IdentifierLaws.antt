@@ -101,9 +101,9 @@ module _ (s : List ℕ) where
   read-empty h = rw (identifier-empty s h, h)
 
   module _ (h : length s ≡ 0 → ⊥) (r : Bool) (q : r ≡ is_letter (get_or s 0 0)) where
-    pub read_word : r ≡ true → (n : ℕ) → n ≡ length (rest is_word (take (length s - 1) (drop 1 s))) → textual n ≡ identifier_of s (read_identifier s)
+    pub read_word_lem : r ≡ true → (n : ℕ) → n ≡ length (rest is_word (take (length s - 1) (drop 1 s))) → textual n ≡ identifier_of s (read_identifier s)
     unfolding identifier_of
-    read_word e n p = rw (identifier-word s h (sym q ∙ e), p, rest_in s 1)
+    read_word_lem e n p = rw (identifier-word s h (sym q ∙ e), p, rest_in s 1)
 
     module _ (e : r ≡ false) (n : Number) (p : n ≡ number_of s (read_number s)) where
       by_number : from_number (length s) n ≡ identifier_of s (read_identifier s)
@@ -115,7 +115,7 @@ module _ (s : List ℕ) where
       pub read-numeric : (n.large || eqb n.left (length s)) ≡ false → numeric n.value n.left ≡ identifier_of s (read_identifier s)
       read-numeric t = rw t at by_number
 
-pub ruleset reads = (read-empty, read_word, read-text, read-numeric)
+pub ruleset reads = (read-empty, read_word_lem, read-text, read-numeric)
 
 -- ---- skip_dot_identifier
 

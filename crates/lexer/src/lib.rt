@@ -1,5 +1,7 @@
 // Bytes, spaces, numbers and identifiers: what src/generated.rs of the crate reads. Each reader is given the part of the text from its
 // place on, and answers how many bytes are left behind what it read: all of them where it read nothing.
+#![tactic(auto)]
+
 ghost use Rattle.std.specs.Prelude.{◌≡◌, ◌+◌, ◌-◌, ◌≤◌, true, length};
 ghost use Rattle.rules.specs.Bytes.{is_space, is_digit, is_letter, is_word, is_wild, is_sign, within};
 ghost use Rattle.rules.specs.Parse.{all, skip, left_of, read_number, read_identifier, read_dot_identifier, read_identifiers, read_qualifier};
@@ -90,7 +92,7 @@ pub fn skip_spaces(s: &[u8]) -> usize
 const LONGEST_PART: usize = 65535;
 
 // How many were passed: all before the part that begins at the place `at`, and n of that.
-#[derive(Drop)]
+#[derive(Clone, Copy)]
 struct Passed {
     at: usize,
     n: u16,
@@ -147,14 +149,14 @@ pub fn skip_words(s: &[u8]) -> usize
 // ---- numbers
 
 // A number's value, or the largest where it is too large. Where there is none, 0, and nothing is taken.
-#[derive(Drop)]
+#[derive(Clone, Copy)]
 pub struct Number {
     pub value: u64,
     pub large: bool,
     pub left: usize,
 }
 
-#[derive(Drop)]
+#[derive(Clone, Copy)]
 struct Sum {
     value: u64,
     large: bool,
@@ -294,7 +296,7 @@ pub fn starts_with(s: &[u8], w: &[u8]) -> bool
 // ---- identifiers
 
 // An identifier: a number with its value, or a text, which is the bytes before what is left. Where there is none, nothing is taken.
-#[derive(Drop)]
+#[derive(Clone, Copy)]
 pub struct Identifier {
     pub number: bool,
     pub value: u64,
@@ -366,7 +368,7 @@ pub fn skip_dot_identifier(s: &[u8]) -> usize
 }
 
 // How many identifiers there are, and how many bytes are left behind them.
-#[derive(Drop)]
+#[derive(Clone, Copy)]
 pub struct Identifiers {
     pub count: usize,
     pub left: usize,

@@ -1,5 +1,7 @@
 // The lookup (02, N3): first fit by the kept triples. The text of an entry is read only where its triples enclose the version's. "Kept", "entry" and
 // "lookup" are 02's words.
+#![tactic(auto)]
+
 ghost use Rattle.std.specs.Prelude.{◌≡◌, ◌+◌, ◌*◌, ◌≤◌, length, drop};
 ghost use Rattle.rules.specs.Answers.{accepted};
 ghost use Rattle.rules.specs.Admission.{admits};

@@ -1,6 +1,8 @@
 // The calls as Rust and C make them (bindings/): a slice is passed as a pointer and a length, and the mode as a number. Each but the
 // identifier bytes call returns 0, or the number of the refusal, and leaves its answer where it is told to. The names begin with the library's, since
 // they are the whole program's. The calls that stand on these are exported by `maluwesi_equality`, and the shelf's by `maluwesi_shelf`.
+#![tactic(auto)]
+
 ghost use Rattle.std.specs.Prelude.{◌≡◌, length, take, drop};
 ghost use Rattle.rules.specs.Answers.{reading, reading_call, reading_outcome, comparator_words_after, identifier_words_after, identifier_bytes, normal_text_call, normal_text_outcome, bytes_after};
 ghost use Rattle.rules.specs.Admission.{admission_call};

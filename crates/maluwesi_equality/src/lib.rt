@@ -1,5 +1,7 @@
 // The calls of `equality` as Rust and C make them (bindings/), as `maluwesi` has the others. They stand apart since they call those: in one crate
 // the functions that both call would no longer be compiled into each (docs/DECISIONS.md).
+#![tactic(auto)]
+
 ghost use Rattle.std.specs.Prelude.{◌≡◌, length};
 ghost use Rattle.rules.specs.Equality.{reread_call, reread_outcome, reread_bytes_after, reread_comparators_after, reread_identifiers_after, texts_call, texts_equal, first_after, second_after};
 ghost use Rattle.rules.specs.Exported.{modes_of, under_both, reread_under, reread_numbers, verdict};
@@ -14,7 +16,7 @@ use rangeset::Reading;
 
 // ---- the modes
 
-#[derive(Drop)]
+#[derive(Clone, Copy)]
 enum Modes {
     Compats(Compat, Compat),
     Nothing,

@@ -59,10 +59,10 @@ pub ruleset fitted = (fit-code, fit-nothing, fit_refused)
 pub list-is : (r : Listing) (a : Answer Part) → listing_of r ≡ a → (x : Found) → x ≡ found_part (listing_of r) → x ≡ found_part a
 list-is r a e x q = q ∙ ap found_part e
 
-pub fit_is : (r : Fit) (a : Answer (Option ℕ)) → fit_of r ≡ a → (x : FirstFit) → x ≡ first_fit (fit_of r) → x ≡ first_fit a
-fit_is r a e x q = q ∙ ap first_fit e
+pub fit_is_lem : (r : Fit) (a : Answer (Option ℕ)) → fit_of r ≡ a → (x : FirstFit) → x ≡ first_fit (fit_of r) → x ≡ first_fit a
+fit_is_lem r a e x q = q ∙ ap first_fit e
 
-pub ruleset exported = (list-is, fit_is)
+pub ruleset exported = (list-is, fit_is_lem)
 
 -- ---- add, under the mode with a number
 

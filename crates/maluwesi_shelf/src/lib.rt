@@ -1,6 +1,8 @@
 // The shelf's calls as Rust and C make them (bindings/), beside the calls of crates/maluwesi and in their manner: each returns 0, or the number of
 // the refusal, and leaves what was asked for where it is told to. A refused change leaves the shelf as it was; a refused listing, first fit or lookup
 // leaves zeros in the places that it is given.
+#![tactic(auto)]
+
 ghost use Rattle.std.specs.Prelude.{◌≡◌};
 ghost use Rattle.rules.specs.Admission.{admits};
 ghost use Rattle.rules.specs.Exported.{under};

@@ -1,4 +1,6 @@
 // The normal text of a range text: a pass that counts its bytes, and a pass that writes them.
+#![tactic(auto)]
+
 ghost use Rattle.std.specs.Prelude.{◌≡◌, ◌+◌, ◌≤◌, length};
 ghost use Rattle.rules.specs.Bytes.{bytes};
 ghost use Rattle.rules.specs.NormalText.{spell_identifier, joined, spell_identifiers};
@@ -21,7 +23,7 @@ use walk::{Stage, Step, next};
 // ---- between comparators
 
 // What stands before the next comparator: nothing, at the start of the text; a blank; or the bars, at the start of a further range.
-#[derive(Drop)]
+#[derive(Clone, Copy)]
 enum Gap {
     Start,
     Blank,
@@ -250,7 +252,7 @@ fn put_text(s: &[u8], compat: Compat, out: &mut [u8]) -> usize
 // ---- the call
 
 // The length of the normal text, or a refusal.
-#[derive(Drop)]
+#[derive(Clone, Copy)]
 pub enum NormalText {
     Written(usize),
     Refused(Refusal),

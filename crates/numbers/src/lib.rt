@@ -1,4 +1,6 @@
 // Answers as numbers, for the functions that are exported: left in the places that are given for them, with 0 or the number of the refusal returned.
+#![tactic(auto)]
+
 ghost use Rattle.std.specs.Prelude.{◌≡◌};
 ghost use Rattle.rules.specs.Exported.{verdict};
 ghost use Rattle.rangeset.specs.Views.{outcome_of};

@@ -1,5 +1,7 @@
 // The program `origins`: which words of a range each of its comparators came from. Its arguments are the mode and the range. It writes a line for
 // each comparator, as `<2.0.0 from ^1.2.3`; or one line, where the range is refused.
+#![tactic(auto)]
+
 ghost use Rattle.std.specs.Prelude.{◌≤◌, length};
 
 use normal_text::{NormalText, normal_text};

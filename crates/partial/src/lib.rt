@@ -1,5 +1,7 @@
 // Partials: `parse_partial` and `Partial` of src/range.rs, with the operators and the comparators that a partial gives. A component that is
 // missing is zero; the kind says which were read.
+#![tactic(auto)]
+
 ghost use Rattle.std.specs.Prelude.{◌≡◌, ◌≤◌, length};
 ghost use Rattle.std.proofs.Math.Option.{none, some};
 ghost use Rattle.rules.specs.Bytes.{is_wild};
@@ -12,7 +14,7 @@ use lexer::Number;
 
 // ---- operators
 
-#[derive(Drop)]
+#[derive(Clone, Copy)]
 pub enum Op {
     Lt,
     Lte,
@@ -22,7 +24,7 @@ pub enum Op {
 }
 
 // The first len of the bytes; the others are 0.
-#[derive(Drop)]
+#[derive(Clone, Copy)]
 pub struct Spelling {
     pub bytes: [u8; 2],
     pub len: usize,
@@ -82,7 +84,7 @@ impl Op {
 // ---- partials
 
 // By how many components were read.
-#[derive(Drop)]
+#[derive(Clone, Copy)]
 pub enum PartialKind {
     XRangeOnly,
     MajorOnly,
@@ -92,7 +94,7 @@ pub enum PartialKind {
 
 // Where a component that was read is above the largest number, large; where one could not be raised, over. The identifiers are count many;
 // their qualifier begins where from bytes of the text are left. Behind the partial left bytes are left.
-#[derive(Drop)]
+#[derive(Clone, Copy)]
 pub struct Partial {
     pub kind: PartialKind,
     pub major: u64,
@@ -106,7 +108,7 @@ pub struct Partial {
 }
 
 // An operator, the numbers, and how many identifiers; over as in the partial.
-#[derive(Drop)]
+#[derive(Clone, Copy)]
 pub struct Comparator {
     pub op: Op,
     pub major: u64,

@@ -84,10 +84,10 @@ same-comparator : {o o' : S.Op} {a a' b b' c c' : ℕ} (is : List S.Identifier) 
     → ◌≡◌ {A = List E.Comparator} (E.comparator o a b c is ∷ []) (E.comparator o' a' b' c' is ∷ [])
 same-comparator is p q r s = rw (p, q, r, s)
 
-kept_gives : (o : Option S.Op) (p : S.Partial) (x : Step) → Holds x p → kept_gives (kept_of o) x (identifiers_of p) ≡ as_read o p
+kept_gives_lem : (o : Option S.Op) (p : S.Partial) (x : Step) → Holds x p → kept_gives (kept_of o) x (identifiers_of p) ≡ as_read o p
 unfolding as_read
-kept_gives none p x h = refl
-kept_gives (some o) p x h = same-comparator (identifiers_of p) (op-back o) h.major h.minor h.patch
+kept_gives_lem none p x h = refl
+kept_gives_lem (some o) p x h = same-comparator (identifiers_of p) (op-back o) h.major h.minor h.patch
 
 raised-gives : (c : Option E.Component) (p : S.Partial) (x : Step) → Holds x p → raised_gives (raised_of c) x ≡ raised c p
 unfolding raised
@@ -96,13 +96,13 @@ raised-gives (some E.major) p x h = same-comparator [] refl (omega (arith, h.maj
 raised-gives (some E.minor) p x h = same-comparator [] refl h.major (omega (arith, h.minor)) refl
 raised-gives (some E.patch) p x h = same-comparator [] refl h.major h.minor (omega (arith, h.patch))
 
-step_gives : (s : List ℕ) (from begin n : ℕ) (y : Piece) (st : W.Stage) (r : List ℕ) (x : Step) → x ≡ step_of from begin n (W.step y st r) → large_in y ≡ false
+step_gives_lem : (s : List ℕ) (from begin n : ℕ) (y : Piece) (st : W.Stage) (r : List ℕ) (x : Step) → x ≡ step_of from begin n (W.step y st r) → large_in y ≡ false
     → step_identifiers s x ≡ identifiers_of (partial_in y) → step_gives s x ≡ comparators y
 unfolding step_gives comparators
-step_gives s from begin n (piece o c p) st r x e l i =
+step_gives_lem s from begin n (piece o c p) st r x e l i =
     let h : Holds x p = holds from begin n o c p st r x e l in
     ap₂ ◌++◌
-    (ap₂ (λ k is. kept_gives k x is) (kept-is from begin n o c p st r x e) i ∙ kept_gives o p x h)
+    (ap₂ (λ k is. kept_gives k x is) (kept-is from begin n o c p st r x e) i ∙ kept_gives_lem o p x h)
     (ap (λ z. raised_gives z x) (raised_is from begin n o c p st r x e) ∙ raised-gives c p x h)
 
 raisable-by : (o : Option S.Op) (c : Option E.Component) (p : S.Partial) (x : Step) → Holds x p → over_in (piece o c p) ≡ false → Raisable (raised_of c) x
@@ -303,7 +303,7 @@ module _ {m : E.Compat} {s : List ℕ} {stage : Stage} {left : ℕ} (g : Passing
                 within = let l = g.within in omega (arith, here.within);
               };
           is = behind.is;
-          gives = step_gives s _ _ _ y to r x step_is large ids;
+          gives = step_gives_lem s _ _ _ y to r x step_is large ids;
           identifiers = ids;
           count = step_count m (stage_of stage) s (drop (length s - left) s) left refl g.within y to r here.step.is x here.from;
           raisable = step-raisable _ _ _ y to r x step_is large (none_first (over_in y) _ over-now);

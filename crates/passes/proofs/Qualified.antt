@@ -32,14 +32,14 @@ record Found (s : List ℕ) (n : ℕ) (is : List S.Identifier) : Type 0 where
   pub left : suc (length text) ≡ n
   pub found : found_in text ≡ is
 
-found_in : {s t : List ℕ} {m n : ℕ} {is : List S.Identifier} → Behind m s t → Found t n is → Found s n is
-found_in h f = record { text = f.text; behind = behind-both h f.behind (omega arith); left = f.left; found = f.found }
+found_in_lem : {s t : List ℕ} {m n : ℕ} {is : List S.Identifier} → Behind m s t → Found t n is → Found s n is
+found_in_lem h f = record { text = f.text; behind = behind-both h f.behind (omega arith); left = f.left; found = f.found }
 
 abbrev Qualified : List ℕ → ℕ → List S.Identifier → Type 0
 Qualified s n is = (length is ≡ 0 → ⊥) → Found s n is
 
 qualified-in : {s t : List ℕ} {m n : ℕ} {is : List S.Identifier} → Behind m s t → Qualified t n is → Qualified s n is
-qualified-in h f z = found_in h (f z)
+qualified-in h f z = found_in_lem h (f z)
 
 without : {s : List ℕ} {n : ℕ} → Qualified s n []
 without z = absurd (z refl)

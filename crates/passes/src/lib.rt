@@ -1,5 +1,7 @@
 // What the passes over a text share. A pass is one loop over the steps of the walk; each step gives at most two comparators, one with the
 // numbers as they were read and one with a component raised.
+#![tactic(auto)]
+
 ghost use Rattle.std.specs.Prelude.{◌≡◌, ◌≤◌};
 ghost use Rattle.rules.specs.Walk.{goes_on};
 ghost use Rattle.walk.specs.Views.{stage_of};

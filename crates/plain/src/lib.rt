@@ -1,5 +1,7 @@
 // The work of the program `plainform`: a text under each mode, as a line of its normal text or its refusal. Each writer writes from the byte
 // `at` on, and answers the place behind what it wrote.
+#![tactic(auto)]
+
 ghost use Rattle.std.specs.Prelude.{◌≡◌, ◌+◌, ◌≤◌, length};
 ghost use Rattle.rules.specs.Answers.{refused, normal_text};
 ghost use Rattle.rules.specs.Plainform.{without_newline, mode_letters, spell_answer, mode_line, mode_lines, plainform, room};

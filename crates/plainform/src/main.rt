@@ -1,4 +1,6 @@
 // The program `plainform`: reads a range text from standard input, and writes its normal text or its refusal under each mode.
+#![tactic(auto)]
+
 use streams::Input;
 
 fn answer(input: &[u8]) {

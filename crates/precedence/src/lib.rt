@@ -1,5 +1,7 @@
 // Semantic Versioning precedence, for the admission: numbers, the prerelease identifiers of a version text against those of a range text,
 // and what an operator says of an order.
+#![tactic(auto)]
+
 ghost use Rattle.std.specs.Prelude.{◌≡◌, ◌-◌, ◌≤◌, length, drop};
 ghost use Rattle.rules.specs.Syntax as Syntax;
 ghost use Rattle.rules.specs.Parse.{found_in};
@@ -16,7 +18,7 @@ use partial::Op;
 // ---- orders
 
 // How the first of two stands to the second.
-#[derive(Drop)]
+#[derive(Clone, Copy)]
 pub enum Order {
     Less,
     Equal,
@@ -219,7 +221,7 @@ fn skip_dot(s: &[u8], left: usize) -> usize
 }
 
 // What the first identifiers of two texts decide: their order; or that there is more to compare, and how many bytes of each are left for it.
-#[derive(Drop)]
+#[derive(Clone, Copy)]
 struct First {
     more: bool,
     order: Order,

@@ -1,4 +1,6 @@
 // Answers and lent memory on standard output, for the program `replay`.
+#![tactic(auto)]
+
 ghost use Rattle.std.specs.Prelude.{◌≤◌};
 
 use admission::Admission;

@@ -1,5 +1,7 @@
 // Items and hyphen ranges: `simple`, `handle_caret_range` and `from_hyphen_range` of src/range.rs. What stands before a partial is read, and
 // an expansion says which comparators the partial gives. It depends on the partial's kind and on which of its numbers are zero.
+#![tactic(auto)]
+
 ghost use Rattle.std.specs.Prelude.{◌≡◌, ◌≤◌, length};
 ghost use Rattle.rules.specs.Syntax.{item};
 ghost use Rattle.rules.specs.Parse.{read_prefix};
@@ -11,7 +13,7 @@ use lexer::starts_with;
 use partial::{Op, Partial, PartialKind};
 
 // The mode.
-#[derive(Drop)]
+#[derive(Clone, Copy)]
 pub enum Compat {
     Cargo,
     Npm,
@@ -30,7 +32,7 @@ impl Compat {
 }
 
 // The mode with a number, if it is one's.
-#[derive(Drop)]
+#[derive(Clone, Copy)]
 pub enum Mode {
     Compat(Compat),
     Nothing,
@@ -51,7 +53,7 @@ pub fn mode_of(number: u8) -> Mode
 
 // ---- what stands before a partial
 
-#[derive(Drop)]
+#[derive(Clone, Copy)]
 pub enum Prefix {
     Bare,
     Tilde,
@@ -60,7 +62,7 @@ pub enum Prefix {
 }
 
 // Behind the prefix left bytes are left.
-#[derive(Drop)]
+#[derive(Clone, Copy)]
 pub struct Lead {
     pub prefix: Prefix,
     pub left: usize,
@@ -110,14 +112,14 @@ pub fn read_prefix(s: &[u8]) -> Lead
 // ---- expansions: a match on the prefix or the operator, and on the partial's kind; behind an arm stands what it expands
 
 // The operator of the comparator with the components as read, if there is one.
-#[derive(Drop)]
+#[derive(Clone, Copy)]
 pub enum Kept {
     Op(Op),
     Nothing,
 }
 
 // The component that is raised in an added `<`, if there is one.
-#[derive(Drop)]
+#[derive(Clone, Copy)]
 pub enum Raised {
     Major,
     Minor,
@@ -125,7 +127,7 @@ pub enum Raised {
     Nothing,
 }
 
-#[derive(Drop)]
+#[derive(Clone, Copy)]
 pub struct Expansion {
     pub kept: Kept,
     pub raised: Raised,

@@ -1,5 +1,7 @@
 // The rows of a text, range by range (01): each range's rows are written into the free rest of the lent words. Each comparator's row has the
 // place and the length of its item (02, N2).
+#![tactic(auto)]
+
 ghost use Rattle.std.specs.Prelude.{◌≡◌, true, false, ◌++◌, ◌-◌, ◌≤◌, length, drop};
 ghost use Rattle.rules.specs.Answers.{reading, comparator_words_after, identifier_words_after};
 ghost use Rattle.range.specs.Views.{compat_of};
@@ -46,7 +48,7 @@ fn is_listed(stage: Stage) -> bool
 }
 
 // How many words rows take, and what stands behind their item or range, where left bytes are left.
-#[derive(Drop)]
+#[derive(Clone, Copy)]
 struct RangeEnd {
     words: usize,
     ids: usize,

@@ -1,5 +1,7 @@
 // Range sets: `RangeSet::parse` of src/range_set.rs. Two passes over the text: the measure counts, then the rows are written. Both begin with the
 // text's first step, which is read once.
+#![tactic(auto)]
+
 ghost use Rattle.std.specs.Prelude.{◌≡◌, ◌≤◌, length};
 ghost use Rattle.rules.specs.Parse.{read_text};
 ghost use Rattle.rules.specs.Answers.{identifier_bytes, longest, reading, reading_call, reading_outcome, comparator_words_after, identifier_words_after};
@@ -18,7 +20,7 @@ use walk::{Stage, Step, next};
 
 // How many ranges, comparators and identifiers a text has, whether a component that is read is too large, and whether one cannot be raised.
 // Where the text has no reading, nothing of it is found.
-#[derive(Drop)]
+#[derive(Clone, Copy)]
 pub struct Tally {
     pub found: bool,
     pub ranges: usize,
@@ -74,7 +76,7 @@ fn measure(s: &[u8], compat: Compat, first: Step) -> Tally
 // ---- the refusals
 
 // 01's refusals, in its order, and the shelf's (02, N1).
-#[derive(Drop)]
+#[derive(Clone, Copy)]
 pub enum Refusal {
     TooLong,
     NoReading,
@@ -115,14 +117,14 @@ impl Refusal {
 // ---- the counts of a reading
 
 // How many ranges, comparator rows and identifier rows.
-#[derive(Drop)]
+#[derive(Clone, Copy)]
 pub struct Counts {
     pub ranges: usize,
     pub comparators: usize,
     pub identifiers: usize,
 }
 
-#[derive(Drop)]
+#[derive(Clone, Copy)]
 pub enum Reading {
     Accepted(Counts),
     Refused(Refusal),

@@ -12,7 +12,7 @@ use Rattle.rules.specs.Rows.{placeless}
 use Rattle.rules.specs.Answers.{fits, partial_fits}
 use Rattle.rules.specs.Parse.{literal, read_dot, after_three, after_two, after_one, read_partial}
 use Rattle.reference.specs.Rule.{Rule}
-use Rattle.reference.specs.Pest.{Pairs, end, pair, ◌⊕◌, and_then, sequenced, optionally, matched, run, match-string, ◌and-then◌, optional, sequence}
+use Rattle.reference.specs.Pest.{Pairs, end, pair, ◌⊕◌, and_then, sequenced, optionally, matched, run, match-string, ◌and_then◌, optional, sequence}
 use Rattle.reference.specs.Generated as G
 use Rattle.reference.specs.Rust.{OrPanic, gives, panics, ◌and◌, unwrap}
 use Rattle.reference.specs.Range.{Partial, partial, XRangeOnly, MajorOnly, MajorMinor, MajorMinorPatch, component-in, component, parse-pre, behind-three, three-is, behind-two, two_is, behind-one, one-is, parse-partial}

@@ -5,7 +5,7 @@
 -- Assumes nothing.
 use Rattle.rules.specs.Bytes.{bytes}
 use Rattle.reference.specs.Rule.{Rule}
-use Rattle.reference.specs.Pest.{Expr, unchanged, start-of-input, end-of-input, match-string, match-range, ◌and-then◌, ◌or-else◌, sequence, optional, repeat, rule}
+use Rattle.reference.specs.Pest.{Expr, unchanged, start-of-input, end-of-input, match-string, match-range, ◌and_then◌, ◌or_else◌, sequence, optional, repeat, rule}
 
 -- "hidden": the grammar has no whitespace rule, so nothing is skipped
 abbrev pub skip : Expr

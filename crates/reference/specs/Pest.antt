@@ -88,13 +88,13 @@ matched s (P.ok a r) = ok r end
 
 -- ---- expressions of the methods, as they stand in src/generated.rs
 
-infixl 20 ◌and-then◌ ◌or-else◌
+infixl 20 ◌and_then◌ ◌or_else◌
 -- A closure `|state| e` is the expression e; `unchanged` is `Ok(state)`.
 pub data Expr : Type 0 where
   unchanged start-of-input end-of-input : Expr
   match-string : List ℕ → Expr
   match-range : ℕ → ℕ → Expr
-  ◌and-then◌ ◌or-else◌ : Expr → Expr → Expr
+  ◌and_then◌ ◌or_else◌ : Expr → Expr → Expr
   sequence optional repeat : Expr → Expr
   rule : Rule → Expr → Expr
 

@@ -3,7 +3,7 @@
 use Rattle.std.specs.Prelude.{List, [], ◌∷◌}
 use Rattle.rules.specs.Bytes.{bytes}
 use Rattle.reference.specs.Rule.{Rule}
-use Rattle.reference.specs.Pest.{end, pair, ok, err, endless, unchanged, start-of-input, end-of-input, match-string, match-range, ◌and-then◌, ◌or-else◌, sequence, optional, repeat, rule}
+use Rattle.reference.specs.Pest.{end, pair, ok, err, endless, unchanged, start-of-input, end-of-input, match-string, match-range, ◌and_then◌, ◌or_else◌, sequence, optional, repeat, rule}
 use Rattle.reference_tables.specs.Rows.{Call, call}
 
 abbrev pub calls : List Call

@@ -21,6 +21,8 @@
 //
 // A line for each mode, Cargo first, has 01's number and what is counted, `yes` or `no`, or `equal` or `different`; behind it, or in lines of their
 // own, stand all lent bytes, which held `_` before, and all lent words, which held 7.
+#![tactic(auto)]
+
 ghost use Rattle.std.specs.Prelude.{◌≤◌, length};
 
 use admission::admit;

@@ -1,5 +1,7 @@
 // Writers of the rows of a reading into lent words: a comparator's row of eight words, and the rows of three words of its identifiers. Each
 // writes at the start of the words that it is lent.
+#![tactic(auto)]
+
 ghost use Rattle.std.specs.Prelude.{◌+◌, ◌<◌, ◌≤◌, length};
 ghost use Rattle.rows.specs.Put.{Put};
 ghost use Rattle.rules.specs.Parse.{found_in};

@@ -165,10 +165,10 @@ items_alike : {w : Where} {s s' r r' : List ℕ} {is : List Item} → Alike w s 
     → (next_extents k ≡ next_extents k') × AlikeSomewhere r r'
 unfolding next_extents
 items_alike {w} h Many.stop Many.stop a a' = (refl, (w, h))
-items_alike h (Many.more (G.next g i) k) (Many.more (G.next g' i') k') a a' =
+items_alike {w = w} h (Many.more (G.next g i) k) (Many.more (G.next g' i') k') a a' =
     let x = gap-alike h g g' (item-first i) (item-first i') in
     let y = item-alike x i i' (items-ends k a) (items-ends k' a') in
-    let z = items_alike y.1 k k' a a' in
+    let z = items_alike {w = y.0} y.1 k k' a a' in
     (ap₂ (λ e es. e ∷ es) (extent-alike x y.1) z.0, z.1)
 
 -- ---- ranges and texts
@@ -200,9 +200,9 @@ further-alike : {w : Where} {s s' r r' : List ℕ} {l : List Range} → Alike w 
     → Spaces r [] → Spaces r' [] → further_in k ≡ further_in k'
 unfolding further_in
 further-alike h Many.stop Many.stop e e' = refl
-further-alike h (Many.more (G.further b a) k) (Many.more (G.further b' a') k') e e' =
+further-alike {w = w} h (Many.more (G.further b a) k) (Many.more (G.further b' a') k') e e' =
     let x = range-alike (separator-alike h b b') a a' (ranges-after k e) (ranges-after k' e') in
-    ap₂ (λ e es. e ∷ es) x.0 (further-alike x.1.1 k k' e e')
+    ap₂ (λ e es. e ∷ es) x.0 (further-alike {w = x.1.0} x.1.1 k k' e e')
 
 text-alike : {t t' : List ℕ} {rs : List Range} → Alike plain t t' → (d : ReadsText t rs) (d' : ReadsText t' rs) → extents_of d ≡ extents_of d'
 unfolding extents_of

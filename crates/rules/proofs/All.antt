@@ -75,5 +75,6 @@ module _ {A : Type 0} (p : A → Bool) where
 
 -- what holds of each, and of some: both of some
 pub some_with : {A : Type 0} {P Q R : A → Type 0} {l : List A} → ((a : A) → P a → Q a → R a) → All P l → Some Q l → Some R l
+some_with f all[] q = elim q [ ]
 some_with f (all∷ {a} h k) (here q) = here (f a h q)
 some_with f (all∷ h k) (there q) = there (some_with f k q)

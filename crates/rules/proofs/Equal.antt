@@ -19,12 +19,12 @@ use Rattle.rules.proofs.Follows.{both}
 
 -- ---- bytes
 
-pub same_bytes : (w w' : List ℕ) → (same_bytes w w' ≡ true) ↔ (w ≡ w')
-same_bytes [] [] = (λ e. refl, λ e. refl)
-same_bytes [] (d ∷ w') = (λ e. cc, λ e. cc)
-same_bytes (c ∷ w) [] = (λ e. cc, λ e. cc)
-same_bytes (c ∷ w) (d ∷ w') =
-    let k = same_bytes w w' in (
+pub same_bytes_lem : (w w' : List ℕ) → (same_bytes w w' ≡ true) ↔ (w ≡ w')
+same_bytes_lem [] [] = (λ e. refl, λ e. refl)
+same_bytes_lem [] (d ∷ w') = (λ e. cc, λ e. cc)
+same_bytes_lem (c ∷ w) [] = (λ e. cc, λ e. cc)
+same_bytes_lem (c ∷ w) (d ∷ w') =
+    let k = same_bytes_lem w w' in (
       λ e. let x = both (eqb c d) (same_bytes w w') e in ap₂ (λ a b. a ∷ b) (eqb-true c d x.0) (k.0 x.1),
       λ e. let p : c ≡ d = cc in let q : w ≡ w' = cc in rw (eq-eqb c d p, k.1 q),
     )

@@ -217,12 +217,12 @@ step_right st e b p s = go (read_partial s)
     go fail = refl
     go (ok q r) = step-to st b (extent b (b - length r)) (expand_right p q) (after_range r) ∙ rw (e, ranges-closes b r)
 
-right_of : (b : ℕ) (p : Partial) (t : List ℕ) → coming (right_of p) b t ≡ right_side b t
+right_of_lem : (b : ℕ) (p : Partial) (t : List ℕ) → coming (right_of p) b t ≡ right_side b t
 unfolding coming
-right_of b x_range_only t = refl
-right_of b (major_only a) t = refl
-right_of b (major_minor a c) t = refl
-right_of b (major_minor_patch a c d is) t = refl
+right_of_lem b x_range_only t = refl
+right_of_lem b (major_only a) t = refl
+right_of_lem b (major_minor a c) t = refl
+right_of_lem b (major_minor_patch a c d is) t = refl
 
 -- ---- a step at a range
 
@@ -256,7 +256,7 @@ first-bare m s p t = go (following t)
         → stepped range (length s) (extent (length s) (length s - end_behind t (answer x (λ x r. behind right r) nowhere))) (taken m bare p (answer x (λ x r. behind right r) nowhere))
         ≡ map_option (λ rs. [] ∷ rs) (range_then (choose x (λ u v. read_partial v then λ q r. ok (up_to s r ∷ up_to s r ∷ []) r) (items_extents (up_to s t) t)))
     dashed u e fail = rw (items-then (up_to s t) t, e, dash-item u)
-    dashed u e (ok x v) = rw (right_of (length s) p v) (sides v (read_partial v))
+    dashed u e (ok x v) = rw (right_of_lem (length s) p v) (sides v (read_partial v))
 
     go : Following t → stepped range (length s) (extent (length s) (length s - end_behind t (follow true t))) (taken m bare p (follow true t))
         ≡ map_option (λ rs. [] ∷ rs) (range_then (after_extents s (S.item bare p) t))

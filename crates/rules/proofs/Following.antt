@@ -3,14 +3,14 @@
 use mathlib.Core.Path.{◌≡◌, refl}
 use Prim.Native.Nat.{ℕ}
 use native.Mathlib.Omega.{arith}
-use mathlib.Core.Bool.{Bool, true, false}
+use mathlib.Core.Bool.{Bool, true, false, ◌&&◌}
 use mathlib.Core.List.{List, [], ◌∷◌}
 use borrow.Author.Tests.{eqb-true, lt-ltb, le-ltb}
 use lib.Dec.{eqb, ltb}
 use lib.ListN.{length}
-use Rattle.rules.specs.Bytes.{bytes, is_space, is_nonzero}
+use Rattle.rules.specs.Bytes.{bytes, pick, is_space, is_nonzero}
 use Rattle.rules.specs.Parse.{Result, fail, ok, ◌then◌, choose, one_of, count, literal, skip, spaces₁, read_number, read_component, read_partial, read_prefix, read_item, read_gap, read_next, read_dash}
-use Rattle.rules.specs.Walk.{item, right, behind, answer, nowhere, after_range, continues, follow}
+use Rattle.rules.specs.Walk.{item, right, Behind, behind, answer, nowhere, after_range, continues, follow}
 use Rattle.rules.proofs.Follows.{two-stops}
 use Rattle.rules.proofs.Complete.{end-item, bar-item}
 use Rattle.rules.proofs.Left.{behind-left}
@@ -38,9 +38,13 @@ unfolding read_next ◌then◌ literal
 spaced t [] e g d f = closing (rw (g, end-item)) d λ b. rw (f b, e)
 spaced t (c ∷ s) e g d f = bar (eqb c 124) refl
   where
+    never : (b : Bool) (x y : Behind) → pick (b && false) x y ≡ y
+    never true x y = refl
+    never false x y = refl
+
     dash : eqb c 124 ≡ false → (b : Bool) → eqb c 45 ≡ b → Following t
     dash n true y = dashing s (rw (e, n)) (rw (← eqb-true c 45 y, g)) (rw (d, y)) (rw (f false, n, ← eqb-true c 45 y)) (rw (f true, n, y))
-    dash n false y = listing (c ∷ s) (rw (e, n)) g (rw (d, y)) λ b. rw (f b, n, y) elim b [ true ↦ refl | false ↦ refl ]
+    dash n false y = listing (c ∷ s) (rw (e, n)) g (rw (d, y)) λ b. rw (f b, n, y) (never b _ _)
 
     bar : (b : Bool) → eqb c 124 ≡ b → Following t
     bar true y = closing (rw (g, eqb-true c 124 y, bar-item s)) (rw (d, eqb-true c 124 y)) λ b. rw (f b, e, y)

@@ -17,7 +17,7 @@ use Rattle.rules.specs.ReadBack.{read_back}
 use Rattle.rules.specs.Equality.{handed_back, reading_handed_back, text_handed_back}
 use Rattle.rules.proofs.Accepted.{reading-number}
 use Rattle.rules.proofs.RowsLaws.{words-length, names-length}
-use Rattle.rules.proofs.ReadBackLaws.{read_back}
+use Rattle.rules.proofs.ReadBackLaws.{read_back_lem}
 use Rattle.rules.proofs.NormalTextCall.{normal_text-refused, normal-reading}
 use Rattle.rules.proofs.RoundTrip.{same-reading, round_trip}
 use Rattle.rules.proofs.Equal.{placeless-comparators, placeless-identifiers, same-counts}
@@ -61,7 +61,7 @@ start w old now n e h = ap₂ take (sym e) h ∙ take-append_seam w (drop (lengt
 module _ (m : Compat) (t : List ℕ) (rs : Reading) (i : reading m t ≡ accepted rs) (words ids : List ℕ) where
   pub handed-rows : handed_back t (reading_outcome (accepted rs)) (comparator_words_after m t (accepted rs) words) (identifier_words_after t (accepted rs) ids) ≡ rs
   unfolding handed_back reading_outcome comparator_words_after identifier_words_after written
-  handed-rows = ap₂ (λ cws iws. read_back t cws iws) cs is ∙ read_back m t rs i
+  handed-rows = ap₂ (λ cws iws. read_back t cws iws) cs is ∙ read_back_lem m t rs i
     where
       cs : take (comparator_width * comparator_rows rs) (comparator_words_after m t (accepted rs) words) ≡ comparator_words m t
       cs = start (comparator_words m t) words _ _ (words-length m t rs i) refl

@@ -4,7 +4,7 @@ use mathlib.Core.List.{List, [], ◌∷◌, ◌++◌}
 use Rattle.rules.specs.Lists.{All, all[], all∷}
 use Rattle.rules.specs.Syntax.{Partial, x_range_only, major_only, major_minor, major_minor_patch, item, Range, nothing, items, hyphen}
 use Rattle.rules.specs.Expansion.{Compat, major, minor, patch, Piece, as_read, raised, comparators, expand_left, expand_right, expand_range, comparators_of, expand}
-use Rattle.rules.proofs.Pieces.{Gives, as_read, raises, item-gives}
+use Rattle.rules.proofs.Pieces.{Gives, given_as_read, raises, item-gives}
 
 -- a list that has a first element
 pub data Nonempty {A : Type 0} : List A → Type 0 where
@@ -15,7 +15,7 @@ nonempty-append l nonempty = nonempty
 
 gives-nonempty : {p : Partial} {x : Piece} → Gives p x → Nonempty (comparators x)
 unfolding comparators as_read raised
-gives-nonempty as_read = nonempty
+gives-nonempty given_as_read = nonempty
 gives-nonempty (raises {c = major} e) = nonempty
 gives-nonempty (raises {c = minor} e) = nonempty
 gives-nonempty (raises {c = patch} e) = nonempty

@@ -10,38 +10,38 @@ use Rattle.rules.specs.Expansion.{Compat, cargo, npm, Component, Piece, piece, p
 
 -- a piece of the partial p that gives a comparator: p as read, perhaps an Lt too; or, of a partial without identifiers, an Lt alone
 pub data Gives (p : Partial) : Piece → Type 0 where
-  as_read : {o : Op} {c : Option Component} → Gives p (piece (some o) c p)
+  given_as_read : {o : Op} {c : Option Component} → Gives p (piece (some o) c p)
   raises : {c : Component} → identifiers_of p ≡ [] → Gives p (piece none (some c) p)
 
 pub item-gives : (m : Compat) (f : Prefix) (p : Partial) → Gives p (expand_item m (item f p))
 unfolding expand_item expand_bare expand_eq expand_tilde expand_caret expand_op expand_lte
-item-gives m bare x_range_only = as_read
-item-gives m bare (major_only a) = as_read
-item-gives m bare (major_minor a b) = as_read
-item-gives npm bare (major_minor_patch a b c is) = as_read
-item-gives cargo bare (major_minor_patch a b c is) = as_read
-item-gives m tilde x_range_only = as_read
-item-gives m tilde (major_only a) = as_read
-item-gives m tilde (major_minor a b) = as_read
-item-gives m tilde (major_minor_patch a b c is) = as_read
-item-gives m caret p = as_read
-item-gives m (op lt) p = as_read
-item-gives m (op gt) x_range_only = as_read
-item-gives m (op gt) (major_only a) = as_read
-item-gives m (op gt) (major_minor a b) = as_read
-item-gives m (op gt) (major_minor_patch a b c is) = as_read
-item-gives m (op gte) p = as_read
-item-gives m (op lte) x_range_only = as_read
+item-gives m bare x_range_only = given_as_read
+item-gives m bare (major_only a) = given_as_read
+item-gives m bare (major_minor a b) = given_as_read
+item-gives npm bare (major_minor_patch a b c is) = given_as_read
+item-gives cargo bare (major_minor_patch a b c is) = given_as_read
+item-gives m tilde x_range_only = given_as_read
+item-gives m tilde (major_only a) = given_as_read
+item-gives m tilde (major_minor a b) = given_as_read
+item-gives m tilde (major_minor_patch a b c is) = given_as_read
+item-gives m caret p = given_as_read
+item-gives m (op lt) p = given_as_read
+item-gives m (op gt) x_range_only = given_as_read
+item-gives m (op gt) (major_only a) = given_as_read
+item-gives m (op gt) (major_minor a b) = given_as_read
+item-gives m (op gt) (major_minor_patch a b c is) = given_as_read
+item-gives m (op gte) p = given_as_read
+item-gives m (op lte) x_range_only = given_as_read
 item-gives m (op lte) (major_only a) = raises refl
 item-gives m (op lte) (major_minor a b) = raises refl
-item-gives m (op lte) (major_minor_patch a b c is) = as_read
-item-gives m (op eq) x_range_only = as_read
-item-gives m (op eq) (major_only a) = as_read
-item-gives m (op eq) (major_minor a b) = as_read
-item-gives m (op eq) (major_minor_patch a b c is) = as_read
+item-gives m (op lte) (major_minor_patch a b c is) = given_as_read
+item-gives m (op eq) x_range_only = given_as_read
+item-gives m (op eq) (major_only a) = given_as_read
+item-gives m (op eq) (major_minor a b) = given_as_read
+item-gives m (op eq) (major_minor_patch a b c is) = given_as_read
 
 pub gives-partial : {p : Partial} {x : Piece} → Gives p x → partial_in x ≡ p
-gives-partial as_read = refl
+gives-partial given_as_read = refl
 gives-partial (raises e) = refl
 
 -- ---- hyphen ranges

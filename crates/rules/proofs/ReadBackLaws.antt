@@ -96,9 +96,9 @@ groups-back m n k (a ∷ qs) (e ∷ es) h =
 
 -- ---- the reading
 
-pub read_back : (m : Compat) (t : List ℕ) (rs : Reading) → reading m t ≡ accepted rs → read_back t (comparator_words m t) (identifier_words (length t) rs) ≡ rs
+pub read_back_lem : (m : Compat) (t : List ℕ) (rs : Reading) → reading m t ≡ accepted rs → read_back t (comparator_words m t) (identifier_words (length t) rs) ≡ rs
 unfolding read_back comparator_words identifier_words
-read_back m t rs e =
+read_back_lem m t rs e =
     ap₂ (λ is w. map comparators_in (groups_from is w)) (identifiers-back t (places m t rs e)) rows ∙ ap (map comparators_in) groups ∙ numbered-back 0 rs
   where
     g : Ranges m t rs

@@ -14,7 +14,7 @@ use Rattle.rules.specs.Rows.{identifiers_in, all_identifiers}
 use Rattle.rules.specs.Answers.{partial_fits, item_fits, range_fits, reading_fits, comparator_rows, identifier_rows}
 use Rattle.rules.specs.Walk.{total, comparator_count, identifier_count, large_in, over_in}
 use Rattle.rules.proofs.All.{all_map, each_append}
-use Rattle.rules.proofs.Pieces.{Gives, as_read, raises, gives-partial, item-gives, left-partial, right-partial}
+use Rattle.rules.proofs.Pieces.{Gives, given_as_read, raises, gives-partial, item-gives, left-partial, right-partial}
 use Rattle.rules.proofs.Pairwise.{each_map}
 use Rattle.rules.proofs.Raised.{expand-over}
 
@@ -65,7 +65,7 @@ item-named : (m : Compat) (i : Item) → Named (expand_item m i)
 item-named m (item f p) = go (item-gives m f p)
   where
     go : {x : Piece} → Gives p x → Named x
-    go as_read = tt
+    go given_as_read = tt
     go (raises e) = e
 
 left-named : (p : Partial) → Named (expand_left p)

@@ -165,8 +165,8 @@ calls-equal = HandedBack.calls-equal
 
 -- ---- 7. The words of the rows, with the text, determine the reading.
 
-pub read_back : (m : Compat) (t : List ℕ) (rs : Reading) → reading m t ≡ accepted rs → read_back t (comparator_words m t) (identifier_words (length t) rs) ≡ rs
-read_back = ReadBackLaws.read_back
+pub read_back_lem : (m : Compat) (t : List ℕ) (rs : Reading) → reading m t ≡ accepted rs → read_back t (comparator_words m t) (identifier_words (length t) rs) ≡ rs
+read_back_lem = ReadBackLaws.read_back_lem
 
 -- ---- 8. Each text identifier of an accepted reading lies within the text, where its bytes stand.
 

@@ -237,9 +237,9 @@ module _ (m : Compat) where
       go fail = refl
       go (ok q r) = step-to st (expand_right p q) (after_range r) ∙ rw (e, ranges-closes r)
 
-  right_of : (p : Partial) (t : List ℕ) → coming (right_of p) t ≡ right_side p t
+  right_of_lem : (p : Partial) (t : List ℕ) → coming (right_of p) t ≡ right_side p t
   unfolding coming right_side
-  right_of p t = go p
+  right_of_lem p t = go p
     where
       same : (p : Partial) → right_of p ≡ right → right_side (major_only 0) t ≡ right_side p t
       same p e = ap (λ f. answer (read_partial t) (λ q r. map_option (push (f q)) (ranges r)) none) (fun_ext (right-same p e))
@@ -278,7 +278,7 @@ module _ (m : Compat) where
           → stepped range (taken m bare p (answer x (λ x r. behind right r) nowhere))
           ≡ map_option (λ rs. [] ∷ rs) (range_then (choose x (λ u v. read_partial v then λ q r. ok (hyphen p q) r) (read_items (S.item bare p) t)))
       dashed u e fail = rw (items-then (S.item bare p) t, e, dash-item u)
-      dashed u e (ok x v) = simp (right_of p v, hyphen-then, map-twice)
+      dashed u e (ok x v) = simp (right_of_lem p v, hyphen-then, map-twice)
 
       go : Following t → stepped range (taken m bare p (follow true t)) ≡ map_option (λ rs. [] ∷ rs) (range_then (after_item (S.item bare p) t))
       go (closing n d f) = listed d (f true ∙ sym (f false))

@@ -1,4 +1,6 @@
 // A shelf of parts in lent bytes (02, N1 and N3): make empty, add, remove and the listing. "Shelf", "part code", "entry" and "listing" are 02's words.
+#![tactic(auto)]
+
 ghost use Rattle.std.specs.Prelude.{◌≡◌};
 ghost use Rattle.rules.specs.Answers.{text_of, reading_outcome};
 ghost use Rattle.range.specs.Views.{compat_of};
@@ -16,7 +18,7 @@ use memory::clear;
 use range::Compat;
 use rangeset::{Reading, Refusal, count, identifier_bytes};
 
-#[derive(Drop)]
+#[derive(Clone, Copy)]
 pub enum Change {
     Done,
     Refused(Refusal),
@@ -123,7 +125,7 @@ pub fn remove(shelf: &mut [u8], code: u16) -> Change
 
 // ---- the listing
 
-#[derive(Drop)]
+#[derive(Clone, Copy)]
 pub enum Listing {
     Text(Part),
     Refused(Refusal),

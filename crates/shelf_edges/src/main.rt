@@ -16,6 +16,8 @@
 //     5  first fit of the version that is the text: the number, 1 where one fits, and its code
 //     6  no call: the byte at the place CODE becomes MODE
 //     7  the lookup of the version that is the text, as first fit
+#![tactic(auto)]
+
 ghost use Rattle.std.specs.Prelude.{◌≤◌, ◌<◌, length};
 
 use lexer::read_number;

@@ -1,5 +1,7 @@
 // Writers of numbers, comparators and refusals into lent bytes, for the normal text and the programs, and how many bytes each writes. Each writer writes from the byte
 // `at` on, and answers the place behind what it wrote.
+#![tactic(auto)]
+
 ghost use Rattle.std.specs.Prelude.{◌≡◌, ◌++◌, ◌+◌, ◌≤◌, length};
 ghost use Rattle.rules.specs.Bytes.{bytes};
 ghost use Rattle.rules.specs.NormalText.{decimal, spell_op};

@@ -1,4 +1,6 @@
 // The rows of a step of the walk: at most two comparators, and the identifiers of its qualifier.
+#![tactic(auto)]
+
 ghost use Rattle.std.specs.Prelude.{◌+◌, ◌*◌, ◌≤◌, length};
 ghost use Rattle.rules.specs.Rows.{comparator_width};
 ghost use Rattle.rows.specs.Put.{Put};

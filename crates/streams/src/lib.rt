@@ -1,6 +1,8 @@
 // The manners of the programs on their standard streams. A read that fails is told from the end of the input, and a write that takes a part of its
 // bytes is followed by another. What a signal interrupts is tried again, and so is a call on a non-blocking descriptor that is not ready. No contract
 // can say which bytes are read or written.
+#![tactic(auto)]
+
 ghost use Rattle.std.specs.Prelude.{◌≡◌, ◌&&◌, ◌≤◌, eqb, length};
 ghost use Rattle.lexer.specs.Views.{starts_with};
 ghost use Rattle.io.specs.Counts.{IsPrefixLen};
@@ -23,7 +25,7 @@ fn again() -> bool {
 // ---- standard input
 
 // How many bytes were read, or that a read failed; errno says why.
-#[derive(Drop)]
+#[derive(Clone, Copy)]
 pub enum Input {
     Bytes(usize),
     Failed,

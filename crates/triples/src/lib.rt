@@ -1,5 +1,7 @@
 // Triples of numbers (02, N3), and the lowest and the highest one that a shelf keeps of an entry: compared, stored in lent bytes as six numbers of
 // eight bytes, the low ones first, and read from them.
+#![tactic(auto)]
+
 ghost use Rattle.std.specs.Prelude.{◌≡◌, ◌+◌, ◌≤◌, ◌<◌, length, take, drop};
 ghost use Rattle.rows.specs.Put.{Put};
 ghost use Rattle.shelf_rules.specs.Table.{low_first, number_in};
@@ -14,7 +16,7 @@ use precedence::{compare_triples, holds};
 
 // ---- compared
 
-#[derive(Drop)]
+#[derive(Clone, Copy)]
 pub struct Triple {
     pub major: u64,
     pub minor: u64,
@@ -31,7 +33,7 @@ pub fn at_most(t: Triple, u: Triple) -> bool
 }
 
 // A lowest and a highest triple.
-#[derive(Drop)]
+#[derive(Clone, Copy)]
 pub struct Bounds {
     pub low: Triple,
     pub high: Triple,

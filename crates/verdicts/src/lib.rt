@@ -1,5 +1,7 @@
 // The work of the program `admits`: the line for a version, the line for a refused range, and the bytes of a line that comes in parts. Each
 // writer writes from the byte `at` on, or from the start, and answers the place behind what it wrote.
+#![tactic(auto)]
+
 ghost use Rattle.std.specs.Prelude.{◌+◌, ◌-◌, ◌≤◌, length, take};
 ghost use Rattle.rules.specs.Admits.{spell_verdict, verdict_line, answer_line, refused_range, verdict_room};
 ghost use Rattle.range.specs.Views.{compat_of};

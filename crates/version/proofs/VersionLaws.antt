@@ -167,15 +167,15 @@ module _ (s : List ℕ) (h : length s ≤ 65535) (n : Numbers) (p : n ≡ number
     abbrev v : List ℕ
     v = drop (length s - n.left) s
 
-    tail_of : t ≡ tail_of v (read_tail v)
-    tail_of = rw (rest_in s (length s - n.left)) at q
+    tail_of_lem : t ≡ tail_of v (read_tail v)
+    tail_of_lem = rw (rest_in s (length s - n.left)) at q
 
     numbers-took : Took s (read_numbers s) n.left
     numbers-took = took (numbers-behind s) n.left left_is z
 
     pub version-broken : t.whole ≡ false → T.NoVersion ≡ version_text_of s (version_of s)
     unfolding version_text_of versioned tail_of ◌then◌
-    version-broken e = go numbers-took.answer numbers-took.is (read_tail v) refl tail_of
+    version-broken e = go numbers-took.answer numbers-took.is (read_tail v) refl tail_of_lem
       where
         go : (x : R.Version) → read_numbers s ≡ ok x v → (y : Result (List Identifier)) → read_tail v ≡ y → t ≡ tail_of v y → T.NoVersion ≡ version_text_of s (version_of s)
         go x i fail f k = rw (answer-is (ok x v) i, f)
@@ -184,7 +184,7 @@ module _ (s : List ℕ) (h : length s ≤ 65535) (n : Numbers) (p : n ≡ number
     module _ (e : t.whole ≡ true) where
       pub version-large : n.large ≡ true → T.TooLarge ≡ version_text_of s (version_of s)
       unfolding version_text_of versioned version_fits tail_of numbers_of ◌then◌
-      version-large l = go numbers-took.answer numbers-took.is (read_tail v) refl tail_of
+      version-large l = go numbers-took.answer numbers-took.is (read_tail v) refl tail_of_lem
         where
           go : (x : R.Version) → read_numbers s ≡ ok x v → (y : Result (List Identifier)) → read_tail v ≡ y → t ≡ tail_of v y → T.TooLarge ≡ version_text_of s (version_of s)
           go x i fail f k = let y : false ≡ true = sym (ap (λ z. z.whole) k) ∙ e in let w : ◌≡◌ {A = ℕ} 0 1 = cc in absurd (omega arith)
@@ -195,7 +195,7 @@ module _ (s : List ℕ) (h : length s ≤ 65535) (n : Numbers) (p : n ≡ number
       pub version-read : n.large ≡ false
           → T.Version (record { major = n.major; minor = n.minor; patch = n.patch; count = t.count; from = t.from }) ≡ version_text_of s (version_of s)
       unfolding version_text_of versioned version_fits tail_of numbers_of ◌then◌
-      version-read l = go numbers-took.answer numbers-took.is (read_tail v) refl tail_of
+      version-read l = go numbers-took.answer numbers-took.is (read_tail v) refl tail_of_lem
         where
           go : (x : R.Version) → read_numbers s ≡ ok x v → (y : Result (List Identifier)) → read_tail v ≡ y → t ≡ tail_of v y
               → T.Version (record { major = n.major; minor = n.minor; patch = n.patch; count = t.count; from = t.from }) ≡ version_text_of s (version_of s)

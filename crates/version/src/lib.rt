@@ -1,5 +1,7 @@
 // Versions: three numbers with dots between, prerelease identifiers behind a `-`, build identifiers behind a `+`. Each reader is given the
 // part of the text from its place on, and answers how many bytes are left behind what it read: all of them where it read nothing.
+#![tactic(auto)]
+
 ghost use Rattle.std.specs.Prelude.{◌≡◌, [], ◌∷◌, ◌+◌, ◌≤◌, length};
 ghost use Rattle.rules.specs.Lists.{each};
 ghost use Rattle.rules.specs.Bytes.{is_digit, is_word};
@@ -14,7 +16,7 @@ use lexer::Identifiers;
 // ---- identifiers
 
 // What an identifier is part of.
-#[derive(Drop)]
+#[derive(Clone, Copy)]
 enum Part {
     Prerelease,
     Build,
@@ -150,7 +152,7 @@ fn skip_series(s: &[u8], sign: u8, part: Part) -> Identifiers
 // ---- versions
 
 // The numbers, each the largest where it is too large, and large where one is. Where there are no three, nothing is taken.
-#[derive(Drop)]
+#[derive(Clone, Copy)]
 struct Numbers {
     major: u64,
     minor: u64,
@@ -202,7 +204,7 @@ fn read_numbers(s: &[u8]) -> Numbers
 
 // Whether the text to its end is what may follow the numbers; how many prerelease identifiers there are, and how many bytes are left where
 // they begin (0 where there are none).
-#[derive(Drop)]
+#[derive(Clone, Copy)]
 struct Tail {
     whole: bool,
     count: usize,
@@ -238,7 +240,7 @@ fn read_tail(s: &[u8]) -> Tail
 }
 
 // The numbers, how many prerelease identifiers there are, and how many bytes of the text are left where they begin (0 where there are none).
-#[derive(Drop)]
+#[derive(Clone, Copy)]
 pub struct Version {
     pub major: u64,
     pub minor: u64,
@@ -248,7 +250,7 @@ pub struct Version {
 }
 
 // A version; no version, or one that is too long; a version with a number that is too large.
-#[derive(Drop)]
+#[derive(Clone, Copy)]
 pub enum VersionText {
     Version(Version),
     NoVersion,

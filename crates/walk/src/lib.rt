@@ -1,5 +1,7 @@
 // The walk over a range set: `RangeSet::parse` of src/range_set.rs reads ranges and their parts one behind another. Here one step reads a piece,
 // which is an item or a side of a hyphen range, and expands it; every pass over a text is one loop over steps.
+#![tactic(auto)]
+
 ghost use Rattle.std.specs.Prelude.{◌≡◌, ◌+◌, ◌≤◌, [], length};
 ghost use Rattle.rules.specs.Syntax.{major_minor_patch};
 ghost use Rattle.rules.specs.Walk.{closes, after_range, continues, follow, stuck, is_bare, right_of, taken};
@@ -16,7 +18,7 @@ use range::{
 
 // An item of the same range; a further range; the right side of a hyphen range, whose left side gave a row, or gave none; the text's end; or
 // nothing that the grammar has.
-#[derive(Drop)]
+#[derive(Clone, Copy)]
 pub enum Stage {
     Item,
     Range,
@@ -83,7 +85,7 @@ fn is_lost(stage: Stage) -> bool
 }
 
 // Where left bytes are left.
-#[derive(Drop)]
+#[derive(Clone, Copy)]
 struct Behind {
     stage: Stage,
     left: usize,
@@ -245,7 +247,7 @@ fn after_partial(s: &[u8], stage: Stage, prefix: Prefix) -> Behind
 // identifiers are count many, and their qualifier begins where from bytes of the text are left. Where a number is above the largest, large;
 // where one cannot be raised, over. Then what stands behind it, where left bytes are left. It begins where begin
 // bytes are left, with its operator if it has one, and its partial ends where end are.
-#[derive(Drop)]
+#[derive(Clone, Copy)]
 pub struct Step {
     pub kept: Kept,
     pub raised: Raised,

@@ -1,0 +1,12 @@
+use Rattle.lexer.proofs.Scan.{Scanned, scan}
+use Rattle.rules.specs.Bytes.{is_space}
+use lib.ListN.{length}
+use Prim.Native.Nat.{◌-◌}
+use borrow.Author.Rules.{rules}
+use Rattle.lexer.proofs.skip_spaces.Given as goal
+
+abbrev pub invariant-loop-i : goal.invariant-loop-i
+invariant-loop-i l = Scanned is_space l.s l.i
+
+abbrev pub decreases-loop-i : goal.decreases-loop-i
+decreases-loop-i l = length l.s - l.i

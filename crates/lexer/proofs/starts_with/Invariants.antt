@@ -1,0 +1,11 @@
+use Rattle.lexer.proofs.IdentifierLaws.{Matched, matches}
+use lib.ListN.{length}
+use Prim.Native.Nat.{◌-◌}
+use borrow.Author.Rules.{rules}
+use Rattle.lexer.proofs.starts_with.Given as goal
+
+abbrev pub invariant-loop-i : goal.invariant-loop-i
+invariant-loop-i l = Matched l.w l.s l.i
+
+abbrev pub decreases-loop-i : goal.decreases-loop-i
+decreases-loop-i l = length l.w - l.i

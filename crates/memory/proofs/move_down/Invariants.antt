@@ -1,0 +1,11 @@
+use Rattle.memory.proofs.Pasting.{Pasting, moves}
+use Prim.Native.Nat.{◌+◌, ◌-◌}
+use lib.ListN.{drop}
+use borrow.Author.Rules.{rules}
+use Rattle.memory.proofs.move_down.Given as goal
+
+abbrev pub invariant-loop-i : goal.invariant-loop-i
+invariant-loop-i l = Pasting l.initial.s l.from (drop (l.from + l.by) l.initial.s) l.n l.s l.i
+
+abbrev pub decreases-loop-i : goal.decreases-loop-i
+decreases-loop-i l = l.n - l.i
