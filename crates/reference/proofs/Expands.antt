@@ -13,7 +13,7 @@ use Rattle.rules.specs.Rows.{placeless_comparator}
 use Rattle.rules.specs.Expansion.{Comparator, as_read, raised, comparators, expand_eq, caret_raises, expand_caret, expand_tilde, expand_bare, expand_lte, expand_op, expand_left, expand_right}
 use Rattle.rules.specs.Answers.{fits, partial_fits, comparator_fits}
 use Rattle.reference.specs.Rust.{OrPanic, gives, panics, ◌and◌, add-one}
-use Rattle.reference.specs.Range.{Compat, Cargo, Npm, Partial, kind, as-comparator, inc-major, inc-minor, inc-patch, zero-missing, zero-minor, zero-patch, no-pre, is_zero, major-zero, minor-zero, caret-zero, caret-major, caret-other, handle-caret-range, from-full, from-partial, from-eq, from-op, from-tilde, hyphen-left, hyphen-wild, hyphen-right}
+use Rattle.reference.specs.Range.{Compat, Cargo, Npm, kind, as-comparator, inc-major, inc-minor, inc-patch, zero-missing, zero-minor, zero-patch, no-pre, is-zero, major-zero, minor-zero, caret-zero, caret-major, caret-other, handle-caret-range, from-full, from-partial, from-eq, from-op, from-tilde, hyphen-left, hyphen-wild, hyphen-right}
 use Rattle.reference.specs.Seen.{mode}
 use Rattle.reference.proofs.Partials.{view_of, given, fits_one}
 
@@ -47,7 +47,7 @@ expands-tilde (major_minor a b) h = let x = fits_each (fits a) (fits b) true h i
 expands-tilde (major_minor_patch a b c is) h = let x = fits_each (fits a) (fits b) (fits c) h in add-and b _ _ ∙ rw (x.0, x.1, x.2) (fits_last (fits (suc b)) _)
 
 pub expands-caret : (p : S.Partial) → partial_fits p ≡ true → handle-caret-range (view_of p) ≡ said (comparators (expand_caret p))
-unfolding said partial_fits comparator_fits comparators as_read raised expand_caret caret_raises handle-caret-range major-zero minor-zero is_zero caret-zero caret-other caret-major as-comparator inc-major inc-minor inc-patch zero-missing zero-minor zero-patch no-pre placeless_comparator ◌and◌
+unfolding said partial_fits comparator_fits comparators as_read raised expand_caret caret_raises handle-caret-range major-zero minor-zero is-zero caret-zero caret-other caret-major as-comparator inc-major inc-minor inc-patch zero-missing zero-minor zero-patch no-pre placeless_comparator ◌and◌
 expands-caret x_range_only h = refl
 expands-caret (major_only zero) h = add-and 0 _ _
 expands-caret (major_only (suc a)) h = let x = fits_each (fits (suc a)) true true h in add-and (suc a) _ _ ∙ rw x.0 (fits_last (fits (suc (suc a))) _)

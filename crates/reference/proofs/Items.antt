@@ -17,7 +17,7 @@ use Rattle.rules.proofs.Results as Results
 use Rattle.rules.proofs.Results.{Gives, gives_then, gives-choose}
 use Rattle.rules.proofs.Sound.{literal-sound}
 use Rattle.reference.specs.Rule.{Rule}
-use Rattle.reference.specs.Pest.{Pairs, end, pair, ◌⊕◌, ParseResult, ok, and_then, or_else, span, matched, run}
+use Rattle.reference.specs.Pest.{Pairs, end, pair, ◌⊕◌, ParseResult, and_then, or_else, span, matched, run}
 use Rattle.reference.specs.Generated as G
 use Rattle.reference.specs.Rust.{OrPanic, gives, panics, ◌and◌, same, joined}
 use Rattle.reference.specs.Range.{Compat, kind, parse-partial, op-of, from-partial, from-op, from-tilde, handle-caret-range, first-partial, from-primitive, simple-record, simple-from-pair-iterator}

@@ -150,16 +150,16 @@ module _ (t : List ℕ) where
 
   -- ---- identifiers
 
-  word-one : (s : List ℕ) → run t G.word_byte s ≡ matched s (one_of is_word s)
-  unfolding run G.word_byte is_letter is_digit
+  word-one : (s : List ℕ) → run t G.word-byte s ≡ matched s (one_of is_word s)
+  unfolding run G.word-byte is_letter is_digit
   word-one s =
       ap (λ o. or_else (or_else o (λ r. matched r (one_of (within 65 90) r))) λ r. matched r (one_of (within 97 122) r))
       (ap (λ o. or_else o λ r. matched r (one_of (within 48 57) r)) (byte-class 45 s) ∙ or-class _ _ s)
       ∙ ap (λ o. or_else o λ r. matched r (one_of (within 97 122) r)) (or-class _ _ s) ∙ or-class _ _ s
       ∙ ap (matched s) (same_class _ is_word (λ c. turned (eqb c 45) (within 48 57 c) (within 65 90 c) (within 97 122 c)) s)
 
-  words-run : (s : List ℕ) → starred (run t G.word_byte) s ≡ ok (drop (count is_word s) s) end
-  words-run s = class-star is_word (run t G.word_byte) word-one s
+  words-run : (s : List ℕ) → starred (run t G.word-byte) s ≡ ok (drop (count is_word s) s) end
+  words-run s = class-star is_word (run t G.word-byte) word-one s
 
   -- where no number begins, a byte of a word is a letter
   letter-one : (s : List ℕ) → read_number s ≡ P.fail → one_of is_word s ≡ one_of is_letter s
@@ -178,7 +178,7 @@ module _ (t : List ℕ) where
   unfolding run G.part read_identifier P.run ◌then◌
   part_meets s =
       rule-meets {Q = Any} Rule.part (or-meets (of_digits (length s)) _ (nr-meets s) (λ w p q. tt)
-      λ z. sequence-meets s (via (chain₂ _ _ ∙ ap (λ o. and_then o (starred (run t G.word_byte))) (word-one s ∙ ap (matched s) (letter-one s z))) (and-within (inside (matched-meets s (one_of is_letter s))) λ c r p e. via (words-run r) (Within.reads tt)))) λ i r p e q. tt
+      λ z. sequence-meets s (via (chain₂ _ _ ∙ ap (λ o. and_then o (starred (run t G.word-byte))) (word-one s ∙ ap (matched s) (letter-one s z))) (and-within (inside (matched-meets s (one_of is_letter s))) λ c r p e. via (words-run r) (Within.reads tt)))) λ i r p e q. tt
 
   dot-part-meets : (s : List ℕ) → Meets Any s (read_dot_identifier s) (run t G.dot-part s)
   unfolding run G.dot-part read_dot_identifier

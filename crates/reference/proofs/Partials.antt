@@ -12,10 +12,10 @@ use Rattle.rules.specs.Rows.{placeless}
 use Rattle.rules.specs.Answers.{fits, partial_fits}
 use Rattle.rules.specs.Parse.{literal, read_dot, after_three, after_two, after_one, read_partial}
 use Rattle.reference.specs.Rule.{Rule}
-use Rattle.reference.specs.Pest.{Pairs, end, pair, ◌⊕◌, and_then, sequenced, optionally, matched, run, match-string, ◌and_then◌, optional, sequence}
+use Rattle.reference.specs.Pest.{Pairs, end, pair, ◌⊕◌, and_then, sequenced, optionally, matched, run, match-string, ◌and-then◌, optional, sequence}
 use Rattle.reference.specs.Generated as G
 use Rattle.reference.specs.Rust.{OrPanic, gives, panics, ◌and◌, unwrap}
-use Rattle.reference.specs.Range.{Partial, partial, XRangeOnly, MajorOnly, MajorMinor, MajorMinorPatch, component-in, component, parse-pre, behind-three, three-is, behind-two, two_is, behind-one, one-is, parse-partial}
+use Rattle.reference.specs.Range.{Partial, partial, XRangeOnly, MajorOnly, MajorMinor, MajorMinorPatch, component-in, component, parse-pre, behind-three, three-is, behind-two, two-is, behind-one, one-is, parse-partial}
 use Rattle.reference.proofs.Meets.{join-end, chain₂, chain₃-left, Meets, Within, inside, via, gets-inside, gets-map, optional_then, sequence-meets, rule-meets, and-within, matched-meets}
 use Rattle.reference.proofs.Lexed.{IsInner, wild, numb, IsXr, is_xr, is_parts, IsQualifier, absent, present, xr-meets, qualifier-gets}
 
@@ -41,18 +41,18 @@ module _ (t : List ℕ) where
       gets-map (up_to₃ c d e) (qualifier-gets t r) λ is q hq. kid₃ hx hy hz hq)
       (rw join-end (kid₂ hx hy))) (rw join-end (kid₁ hx)))
 
-  kids-run : (s : List ℕ) → Meets Kids s (read_partial s) (run t (sequence (G.xr and_then G.skip and_then
-      optional (sequence (match-string (bytes ".") and_then G.skip and_then G.xr and_then G.skip and_then
-      optional (sequence (match-string (bytes ".") and_then G.skip and_then G.xr and_then G.skip and_then optional G.qualifier)))))) s)
+  kids-run : (s : List ℕ) → Meets Kids s (read_partial s) (run t (sequence (G.xr and-then G.skip and-then
+      optional (sequence (match-string (bytes ".") and-then G.skip and-then G.xr and-then G.skip and-then
+      optional (sequence (match-string (bytes ".") and-then G.skip and-then G.xr and-then G.skip and-then optional G.qualifier)))))) s)
   unfolding run
   kids-run s = sequence-meets s (via (chain₂ _ _ ∙ ap (and_then (run t G.xr s)) (λ i r. tail₁ r i)) (kids-within s))
     where
-      tail₂ : (s : List ℕ) → run t (optional (sequence (match-string (bytes ".") and_then G.skip and_then G.xr and_then G.skip and_then optional G.qualifier))) s
+      tail₂ : (s : List ℕ) → run t (optional (sequence (match-string (bytes ".") and-then G.skip and-then G.xr and-then G.skip and-then optional G.qualifier))) s
           ≡ optionally (sequenced s (and_then (and_then (matched s (literal (bytes ".") s)) (run t G.xr)) λ s. optionally (run t G.qualifier s)))
       tail₂ s = ap (λ o. optionally (sequenced s o)) (chain₃-left _ _ _)
 
-      tail₁ : (s : List ℕ) → run t (optional (sequence (match-string (bytes ".") and_then G.skip and_then G.xr and_then G.skip and_then
-          optional (sequence (match-string (bytes ".") and_then G.skip and_then G.xr and_then G.skip and_then optional G.qualifier))))) s
+      tail₁ : (s : List ℕ) → run t (optional (sequence (match-string (bytes ".") and-then G.skip and-then G.xr and-then G.skip and-then
+          optional (sequence (match-string (bytes ".") and-then G.skip and-then G.xr and-then G.skip and-then optional G.qualifier))))) s
           ≡ optionally (sequenced s (and_then (and_then (matched s (literal (bytes ".") s)) (run t G.xr))
           λ s. optionally (sequenced s (and_then (and_then (matched s (literal (bytes ".") s)) (run t G.xr)) λ s. optionally (run t G.qualifier s)))))
       tail₁ s = ap (λ o. optionally (sequenced s o)) (chain₃-left _ _ _ ∙ ap (and_then _) (λ i r. tail₂ r i))
@@ -109,14 +109,14 @@ one-parse v (some a) h = inner-and _ h ∙ fits_one (fits a) _
 
 two-parse : (v w : List ℕ) (c d : Option ℕ) {i j : Pairs} → IsInner c i → IsInner d j
     → parse-partial (pair Rule.xr v i (pair Rule.xr w j end)) ≡ given (partial_fits (up_to₂ c d)) (gives (view_of (up_to₂ c d)))
-unfolding parse-partial component one-is behind-one two_is behind-two partial_fits up_to₂
+unfolding parse-partial component one-is behind-one two-is behind-two partial_fits up_to₂
 two-parse v w none d h k = inner-and _ h
 two-parse v w (some a) none h k = inner-and _ h ∙ ap (given (fits a)) (inner-and _ k) ∙ fits_one (fits a) _
 two-parse v w (some a) (some b) h k = inner-and _ h ∙ ap (given (fits a)) (inner-and _ k) ∙ fits-two (fits a) (fits b) _
 
 three-parse : (u v w : List ℕ) (c d e : Option ℕ) {is : List Identifier} {i j k q : Pairs} → IsInner c i → IsInner d j → IsInner e k → IsQualifier is q
     → parse-partial (pair Rule.xr u i (pair Rule.xr v j (pair Rule.xr w k q))) ≡ given (partial_fits (up_to₃ c d e is)) (gives (view_of (up_to₃ c d e is)))
-unfolding parse-partial component one-is behind-one two_is behind-two three-is partial_fits up_to₃
+unfolding parse-partial component one-is behind-one two-is behind-two three-is partial_fits up_to₃
 three-parse u v w none d e h k l q = inner-and _ h
 three-parse u v w (some a) none e h k l q = inner-and _ h ∙ ap (given (fits a)) (inner-and _ k) ∙ fits_one (fits a) _
 three-parse u v w (some a) (some b) none h k l q = inner-and _ h ∙ ap (given (fits a)) (inner-and _ k ∙ ap (given (fits b)) (inner-and _ l)) ∙ fits-two (fits a) (fits b) _

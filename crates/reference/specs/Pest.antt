@@ -88,13 +88,13 @@ matched s (P.ok a r) = ok r end
 
 -- ---- expressions of the methods, as they stand in src/generated.rs
 
-infixl 20 ◌and_then◌ ◌or_else◌
+infixl 20 ◌and-then◌ ◌or-else◌
 -- A closure `|state| e` is the expression e; `unchanged` is `Ok(state)`.
 pub data Expr : Type 0 where
   unchanged start-of-input end-of-input : Expr
   match-string : List ℕ → Expr
   match-range : ℕ → ℕ → Expr
-  ◌and_then◌ ◌or_else◌ : Expr → Expr → Expr
+  ◌and-then◌ ◌or-else◌ : Expr → Expr → Expr
   sequence optional repeat : Expr → Expr
   rule : Rule → Expr → Expr
 
@@ -105,8 +105,8 @@ run t start-of-input s = pick (eqb (length s) (length t)) (ok s end) (err s end)
 run t end-of-input s = matched s (at_end s)
 run t (match-string w) s = matched s (literal w s)
 run t (match-range a b) s = matched s (one_of (within a b) s)
-run t (e and_then f) s = and_then (run t e s) (run t f)
-run t (e or_else f) s = or_else (run t e s) (run t f)
+run t (e and-then f) s = and_then (run t e s) (run t f)
+run t (e or-else f) s = or_else (run t e s) (run t f)
 run t (sequence e) s = sequenced s (run t e s)
 run t (optional e) s = optionally (run t e s)
 run t (repeat e) s = repeated (run t e) (suc (length s)) s

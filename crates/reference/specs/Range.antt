@@ -114,15 +114,15 @@ behind-two a b (pair rule w inner more) = component rule inner and three-is a b 
 
 -- 500: `Rule::xr_op => {`
 -- 506: `Rule::nr => {`
-unfoldable pub two_is : ℕ → Pairs → Option ℕ → OrPanic Partial
-two_is a more none = gives (partial (some a) none none [] MajorOnly)
-two_is a more (some b) = behind-two a b more
+unfoldable pub two-is : ℕ → Pairs → Option ℕ → OrPanic Partial
+two-is a more none = gives (partial (some a) none none [] MajorOnly)
+two-is a more (some b) = behind-two a b more
 
 -- 489: `if components.is_empty() {`
 -- 494: `let two = components.remove(0);`
 unfoldable pub behind-one : ℕ → Pairs → OrPanic Partial
 behind-one a end = gives (partial (some a) none none [] MajorOnly)
-behind-one a (pair rule w inner more) = component rule inner and two_is a more
+behind-one a (pair rule w inner more) = component rule inner and two-is a more
 
 -- 473: `Rule::xr_op => {`
 -- 480: `Rule::nr => {`
@@ -148,18 +148,18 @@ abbrev pub push : Op → Partial → List Comparator
 push o p = as-comparator o p ∷ []
 
 -- `== Some(0)`
-unfoldable pub is_zero : Option ℕ → Bool
-is_zero none = false
-is_zero (some zero) = true
-is_zero (some (suc n)) = false
+unfoldable pub is-zero : Option ℕ → Bool
+is-zero none = false
+is-zero (some zero) = true
+is-zero (some (suc n)) = false
 
 -- 340: `if partial.major == Some(0) {`
 unfoldable pub major-zero : Partial → Bool
-major-zero (partial a b c is k) = is_zero a
+major-zero (partial a b c is k) = is-zero a
 
 -- 366: `if partial.minor == Some(0) {`
 unfoldable pub minor-zero : Partial → Bool
-minor-zero (partial a b c is k) = is_zero b
+minor-zero (partial a b c is k) = is-zero b
 
 -- 341: `match partial.kind {`
 unfoldable pub caret-zero : PartialKind → Partial → OrPanic (List Comparator)

@@ -37,5 +37,5 @@ unfolding one_of literal at_end ◌⊕◌ queued and_then or_else sequenced opti
 ran (call t e r) = run t e t
 
 unfoldable pub transcribed : Row → List Returned
-unfolding is_digit value value_from one_of literal at_end ◌⊕◌ queued and_then or_else sequenced optionally ruled again repeated matched run G.SOI G.EOI G.space G.spaces G.spaces₁ G.nr G.word_byte G.part G.dot-part G.parts G.qualifier G.xr-op G.xr G.partial G.caret G.tilde G.primitive-op G.primitive G.simple G.hyphen G.empty G.next-simple G.range G.logical-or G.next-range G.range-set ◌and◌ joined unwrap add-one digits-u64 parse-u64 to-first split same R.new R.as-comparator R.inc-major R.inc-minor R.inc-patch R.zero-missing R.zero-minor R.zero-patch R.no-pre R.identifier-of R.identifier R.parse-pre R.component-in R.component R.behind-three R.three-is R.behind-two R.two_is R.behind-one R.one-is R.parse-partial R.first-partial R.is_zero R.major-zero R.minor-zero R.caret-zero R.caret-major R.caret-other R.handle-caret-range R.from-full R.from-partial R.op-of R.from-eq R.from-op R.from-primitive R.from-tilde R.simple-record R.simple-from-pair-iterator R.hyphen-left R.hyphen-wild R.hyphen-right R.hyphen-second R.from-hyphen-range R.range-record R.range-from-pair-iterator S.set-record S.set-records S.returned S.from-pair-iterator S.parsed parse
+unfolding is_digit value value_from one_of literal at_end ◌⊕◌ queued and_then or_else sequenced optionally ruled again repeated matched run G.SOI G.EOI G.space G.spaces G.spaces₁ G.nr G.word-byte G.part G.dot-part G.parts G.qualifier G.xr-op G.xr G.partial G.caret G.tilde G.primitive-op G.primitive G.simple G.hyphen G.empty G.next-simple G.range G.logical-or G.next-range G.range-set ◌and◌ joined unwrap add-one digits-u64 parse-u64 to-first split same R.new R.as-comparator R.inc-major R.inc-minor R.inc-patch R.zero-missing R.zero-minor R.zero-patch R.no-pre R.identifier-of R.identifier R.parse-pre R.component-in R.component R.behind-three R.three-is R.behind-two R.two-is R.behind-one R.one-is R.parse-partial R.first-partial R.is-zero R.major-zero R.minor-zero R.caret-zero R.caret-major R.caret-other R.handle-caret-range R.from-full R.from-partial R.op-of R.from-eq R.from-op R.from-primitive R.from-tilde R.simple-record R.simple-from-pair-iterator R.hyphen-left R.hyphen-wild R.hyphen-right R.hyphen-second R.from-hyphen-range R.range-record R.range-from-pair-iterator S.set-record S.set-records S.returned S.from-pair-iterator S.parsed parse
 transcribed (row ms t r) = map (λ m. parse m t) ms
