@@ -50,4 +50,4 @@ pub shape_of-ids : goal.shape_of-ids
 shape_of-ids c = search (furthering, rules)
 
 pub returns : goal.returns
-returns c = (search (furthering, rules), (search (furthering, rules), search (furthering, rules)))
+returns c = record { put = search (furthering, rules); ids = search (furthering, rules); behind = search (furthering, rules) }

@@ -15,4 +15,4 @@ pub shape_of-ids : goal.shape_of-ids
 shape_of-ids c = search (listing, rules)
 
 pub returns : goal.returns
-returns c = (search (listing, rules), (search (listing, rules), search (listing, rules)))
+returns c = record { put = search (listing, rules); ids = search (listing, rules); behind = search (listing, rules) }

@@ -30,10 +30,10 @@ pub shape_of-ids-then-is_side : goal.shape_of-ids-then-is_side
 shape_of-ids-then-is_side c = search (ranging, rules)
 
 pub returns-then-is_side : goal.returns-then-is_side
-returns-then-is_side c = (search (ranging, rules), (search (ranging, rules), search (ranging, rules)))
+returns-then-is_side c = record { put = search (ranging, rules); ids = search (ranging, rules); behind = search (ranging, rules) }
 
 pub put_items-requires : goal.put_items-requires
-put_items-requires c = (search (ranging, rules), search (ranging, rules))
+put_items-requires c = record { at_range = search (ranging, rules); stage_value = search (ranging, rules) }
 
 pub shape_of-words : goal.shape_of-words
 shape_of-words c = search (ranging, rules)

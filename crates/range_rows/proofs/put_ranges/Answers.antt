@@ -45,7 +45,7 @@ pub shape_of-ids-then-not-goes_on : goal.shape_of-ids-then-not-goes_on
 shape_of-ids-then-not-goes_on c = search (putting, rules)
 
 pub returns-then-not-goes_on : goal.returns-then-not-goes_on
-returns-then-not-goes_on c = (search (putting, rules), search (putting, rules))
+returns-then-not-goes_on c = record { words_after = search (putting, rules); ids = search (putting, rules) }
 
 pub overflow_add-range : goal.overflow_add-range
 overflow_add-range c = search (put_count, rules)
