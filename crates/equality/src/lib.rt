@@ -85,7 +85,7 @@ pub fn read_normal_text(
     words: &mut [u64],
     ids: &mut [u64],
 ) -> Reread
-    ensures result_value { reread_of result ≡ reread_outcome (reread_call (compat_of compat) (compat_of other) s.now (length out.old) (length words.old) (length ids.old)) }
+    ensures answer { reread_of result ≡ reread_outcome (reread_call (compat_of compat) (compat_of other) s.now (length out.old) (length words.old) (length ids.old)) }
     ensures bytes { out.new ≡ reread_bytes_after (reread_call (compat_of compat) (compat_of other) s.now (length out.old) (length words.old) (length ids.old)) out.old }
     ensures words { words.new ≡ reread_comparators_after (reread_call (compat_of compat) (compat_of other) s.now (length out.old) (length words.old) (length ids.old)) words.old }
     ensures ids { ids.new ≡ reread_identifiers_after (reread_call (compat_of compat) (compat_of other) s.now (length out.old) (length words.old) (length ids.old)) ids.old }
@@ -170,7 +170,7 @@ pub fn equal_readings(
     a: &mut [u8],
     b: &mut [u8],
 ) -> Equality
-    ensures result_value { answer_of result ≡ texts_equal (texts_call (compat_of compat) s.now (length a.old) (compat_of other) t.now (length b.old)) }
+    ensures answer { answer_of result ≡ texts_equal (texts_call (compat_of compat) s.now (length a.old) (compat_of other) t.now (length b.old)) }
     ensures first { a.new ≡ first_after (texts_call (compat_of compat) s.now (length a.old) (compat_of other) t.now (length b.old)) a.old }
     ensures second { b.new ≡ second_after (texts_call (compat_of compat) s.now (length a.old) (compat_of other) t.now (length b.old)) b.old }
     ensures equal { Tells (compat_of compat) s.now (length a.old) (compat_of other) t.now (length b.old) (answer_of result) }

@@ -45,7 +45,7 @@ pub extern "C" fn maluwesi_read(
     comparators: &mut usize,
     identifiers: &mut usize,
 ) -> u64
-    ensures identifiers_after { outcome result ranges.new comparators.new identifiers.new ≡ reading_outcome (under mode (λ m. reading_call m text.now (length words.old) (length ids.old))) }
+    ensures answer { outcome result ranges.new comparators.new identifiers.new ≡ reading_outcome (under mode (λ m. reading_call m text.now (length words.old) (length ids.old))) }
     ensures words { words.new ≡ words_under mode (λ m. comparator_words_after m text.now (reading_call m text.now (length words.old) (length ids.old)) words.old) words.old }
     ensures ids { ids.new ≡ identifier_words_after text.now (under mode (λ m. reading_call m text.now (length words.old) (length ids.old))) ids.old }
 {
@@ -67,7 +67,7 @@ pub extern "C" fn maluwesi_identifier_bytes(
     from: &mut usize,
     size: &mut usize,
 )
-    ensures size_after { part_is from.new size.new ≡ part_at place (identifier_bytes text.now place len) }
+    ensures answer { part_is from.new size.new ≡ part_at place (identifier_bytes text.now place len) }
     ensures bytes { take size.new (drop from.new text.now) ≡ identifier_bytes text.now place len }
 {
     let part = identifier_bytes(text, place, len);
@@ -105,7 +105,7 @@ pub extern "C" fn maluwesi_normal_text(
     out: &mut [u8],
     len: &mut usize,
 ) -> u64
-    ensures len_after { length_is result len.new ≡ normal_text_outcome (under mode (λ m. normal_text_call m text.now (length out.old))) }
+    ensures answer { length_is result len.new ≡ normal_text_outcome (under mode (λ m. normal_text_call m text.now (length out.old))) }
     ensures bytes { out.new ≡ bytes_after (under mode (λ m. normal_text_call m text.now (length out.old))) out.old }
 {
     let m = mode_of(mode);

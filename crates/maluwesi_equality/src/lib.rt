@@ -78,7 +78,7 @@ pub extern "C" fn maluwesi_read_normal_text(
     comparators: &mut usize,
     identifiers: &mut usize,
 ) -> u64
-    ensures identifiers_after { reread_is result normal.new ranges.new comparators.new identifiers.new ≡ reread_numbers (reread_outcome (reread_under mode other (λ m m'. reread_call m m' text.now (length out.old) (length words.old) (length ids.old)))) }
+    ensures answer { reread_is result normal.new ranges.new comparators.new identifiers.new ≡ reread_numbers (reread_outcome (reread_under mode other (λ m m'. reread_call m m' text.now (length out.old) (length words.old) (length ids.old)))) }
     ensures bytes { out.new ≡ reread_bytes_after (reread_under mode other (λ m m'. reread_call m m' text.now (length out.old) (length words.old) (length ids.old))) out.old }
     ensures words { words.new ≡ reread_comparators_after (reread_under mode other (λ m m'. reread_call m m' text.now (length out.old) (length words.old) (length ids.old))) words.old }
     ensures ids { ids.new ≡ reread_identifiers_after (reread_under mode other (λ m m'. reread_call m m' text.now (length out.old) (length words.old) (length ids.old))) ids.old }
@@ -125,7 +125,7 @@ pub extern "C" fn maluwesi_equal_readings(
     out2: &mut [u8],
     equal: &mut u8,
 ) -> u64
-    ensures equal_after { verdict_is result equal.new ≡ verdict (texts_equal (under_both mode mode2 (λ m m'. texts_call m text.now (length out.old) m' text2.now (length out2.old)))) }
+    ensures answer { verdict_is result equal.new ≡ verdict (texts_equal (under_both mode mode2 (λ m m'. texts_call m text.now (length out.old) m' text2.now (length out2.old)))) }
     ensures first { out.new ≡ first_after (under_both mode mode2 (λ m m'. texts_call m text.now (length out.old) m' text2.now (length out2.old))) out.old }
     ensures second { out2.new ≡ second_after (under_both mode mode2 (λ m m'. texts_call m text.now (length out.old) m' text2.now (length out2.old))) out2.old }
 {

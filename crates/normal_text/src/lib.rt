@@ -81,7 +81,7 @@ fn gap_behind(x: Step, gap: Gap) -> Gap
 // The identifiers of a step, with dots between: numbers have no leading zeros in the text, so they are spelled by its bytes.
 fn identifiers<'a>(s: &'a [u8], x: Step) -> &'a [u8]
     requires { Known s.now x }
-    ensures result_value { result.now ≡ joined spell_identifier (bytes ".") (step_identifiers s.now x) }
+    ensures answer { result.now ≡ joined spell_identifier (bytes ".") (step_identifiers s.now x) }
     ensures within { length result.now ≤ length s.now }
 {
     if x.count == 0 {
@@ -283,7 +283,7 @@ pub fn normal_text_len(s: &[u8], compat: Compat, lent: usize) -> NormalText
 
 // Writes the normal text at the start of out; later bytes keep theirs, and a refusal changes none.
 pub fn normal_text(s: &[u8], compat: Compat, out: &mut [u8]) -> NormalText
-    ensures result_value { length_of result ≡ normal_text_outcome (normal_text_call (compat_of compat) s.now (length out.old)) }
+    ensures answer { length_of result ≡ normal_text_outcome (normal_text_call (compat_of compat) s.now (length out.old)) }
     ensures bytes { out.new ≡ bytes_after (normal_text_call (compat_of compat) s.now (length out.old)) out.old }
 {
     let r = normal_text_len(s, compat, out.len());

@@ -166,7 +166,7 @@ pub fn count(s: &[u8], compat: Compat) -> Reading
 // ---- the reading
 
 pub fn read(s: &[u8], compat: Compat, words: &mut [u64], ids: &mut [u64]) -> Reading
-    ensures result_value { outcome_of result ≡ reading_outcome (reading_call (compat_of compat) s.now (length words.old) (length ids.old)) }
+    ensures answer { outcome_of result ≡ reading_outcome (reading_call (compat_of compat) s.now (length words.old) (length ids.old)) }
     ensures words { words.new ≡ comparator_words_after (compat_of compat) s.now (reading_call (compat_of compat) s.now (length words.old) (length ids.old)) words.old }
     ensures ids { ids.new ≡ identifier_words_after s.now (reading_call (compat_of compat) s.now (length words.old) (length ids.old)) ids.old }
 {

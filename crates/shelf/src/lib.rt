@@ -27,7 +27,7 @@ pub enum Change {
 // ---- make empty
 
 pub fn make_empty(shelf: &mut [u8]) -> Change
-    ensures result_value { change_of result ≡ refusal_of (empty_call shelf.old) }
+    ensures answer { change_of result ≡ refusal_of (empty_call shelf.old) }
     ensures bytes { shelf.new ≡ shelf_after (empty_call shelf.old) shelf.old }
 {
     let n = shelf.len();
@@ -54,7 +54,7 @@ fn count_text(text: &[u8], compat: Compat) -> Reading
 fn add_read(shelf: &mut [u8], n: usize, code: u16, compat: Compat, text: &[u8]) -> Change
     requires counted { Counted shelf.old n }
     requires enterable { Enterable (compat_of compat) text.now }
-    ensures result_value { change_of result ≡ refusal_of (add_call code (compat_of compat) text.now shelf.old) }
+    ensures answer { change_of result ≡ refusal_of (add_call code (compat_of compat) text.now shelf.old) }
     ensures bytes { shelf.new ≡ shelf_after (add_call code (compat_of compat) text.now shelf.old) shelf.old }
 {
     let f = find_code(&shelf[0..], n, code);
@@ -73,7 +73,7 @@ fn add_read(shelf: &mut [u8], n: usize, code: u16, compat: Compat, text: &[u8]) 
 
 fn add_counted(shelf: &mut [u8], n: usize, code: u16, compat: Compat, text: &[u8]) -> Change
     requires { Counted shelf.old n }
-    ensures result_value { change_of result ≡ refusal_of (add_call code (compat_of compat) text.now shelf.old) }
+    ensures answer { change_of result ≡ refusal_of (add_call code (compat_of compat) text.now shelf.old) }
     ensures bytes { shelf.new ≡ shelf_after (add_call code (compat_of compat) text.now shelf.old) shelf.old }
 {
     let r = count_text(text, compat);
@@ -84,7 +84,7 @@ fn add_counted(shelf: &mut [u8], n: usize, code: u16, compat: Compat, text: &[u8
 }
 
 pub fn add(shelf: &mut [u8], code: u16, compat: Compat, text: &[u8]) -> Change
-    ensures result_value { change_of result ≡ refusal_of (add_call code (compat_of compat) text.now shelf.old) }
+    ensures answer { change_of result ≡ refusal_of (add_call code (compat_of compat) text.now shelf.old) }
     ensures bytes { shelf.new ≡ shelf_after (add_call code (compat_of compat) text.now shelf.old) shelf.old }
 {
     let c = count_entries(&shelf[0..]);
@@ -99,7 +99,7 @@ pub fn add(shelf: &mut [u8], code: u16, compat: Compat, text: &[u8]) -> Change
 // The first of n entries with the part code goes.
 fn remove_counted(shelf: &mut [u8], n: usize, code: u16) -> Change
     requires { Counted shelf.old n }
-    ensures result_value { change_of result ≡ refusal_of (remove_call code shelf.old) }
+    ensures answer { change_of result ≡ refusal_of (remove_call code shelf.old) }
     ensures bytes { shelf.new ≡ shelf_after (remove_call code shelf.old) shelf.old }
 {
     let f = find_code(&shelf[0..], n, code);
@@ -113,7 +113,7 @@ fn remove_counted(shelf: &mut [u8], n: usize, code: u16) -> Change
 }
 
 pub fn remove(shelf: &mut [u8], code: u16) -> Change
-    ensures result_value { change_of result ≡ refusal_of (remove_call code shelf.old) }
+    ensures answer { change_of result ≡ refusal_of (remove_call code shelf.old) }
     ensures bytes { shelf.new ≡ shelf_after (remove_call code shelf.old) shelf.old }
 {
     let c = count_entries(&shelf[0..]);

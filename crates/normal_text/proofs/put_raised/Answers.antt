@@ -1,0 +1,21 @@
+use Rattle.normal_text.proofs.Steps.{raisings}
+use borrow.Author.Rules.{rules}
+use Rattle.normal_text.proofs.put_raised.Goals as goal
+
+pub raised_count-requires : goal.raised_count-requires
+raised_count-requires c = search (raisings, rules)
+
+pub returns-then-raised_count-eq0 : goal.returns-then-raised_count-eq0
+returns-then-raised_count-eq0 c = search (raisings, rules)
+
+pub raised_to-requires : goal.raised_to-requires
+raised_to-requires c = search (raisings, rules)
+
+pub put_after-requires : goal.put_after-requires
+put_after-requires c = search (raisings, rules)
+
+pub shape_of-out : goal.shape_of-out
+shape_of-out c = search (raisings, rules)
+
+pub returns : goal.returns
+returns c = search (raisings, rules)
