@@ -1,4 +1,4 @@
-use Rattle.lookup.proofs.LookupLaws.{kept_fitting}
+use Rattle.lookup.proofs.LookupLaws.{kept_fitting, kept-inside}
 use borrow.Author.Rules.{rules}
 use Rattle.lookup.proofs.kept_fits.Goals as goal
 
@@ -36,7 +36,8 @@ pub entry_fits-requires : goal.entry_fits-requires
 entry_fits-requires c = search (kept_fitting, rules)
 
 pub returns-then-encloses : goal.returns-then-encloses
-returns-then-encloses c = search (kept_fitting, rules)
+returns-then-encloses c =
+    kept-inside c.args.shelf.now c.args.t.now c.args.k c.bounds_at.result c.bounds_at.ensures c.args.v c.encloses.result c.encloses.ensures c.requires.held c.if-encloses.true _ c.entry_fits.ensures
 
 pub returns : goal.returns
 returns c = search (kept_fitting, rules)

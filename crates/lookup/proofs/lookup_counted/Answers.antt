@@ -1,4 +1,4 @@
-use Rattle.lookup.proofs.LookupLaws.{counted_lookups}
+use Rattle.lookup.proofs.LookupLaws.{counted_lookups, lookup-fits}
 use borrow.Author.Rules.{rules}
 use Rattle.lookup.proofs.lookup_counted.Goals as goal
 
@@ -24,4 +24,5 @@ pub returns-in-TooLarge : goal.returns-in-TooLarge
 returns-in-TooLarge c = search (counted_lookups, rules)
 
 pub returns-in-Version : goal.returns-in-Version
-returns-in-Version c = search (counted_lookups, rules)
+returns-in-Version c =
+    lookup-fits c.args.shelf.now c.args.t.now c.args.n c.lookup_version.result c.lookup_version.ensures c.read_version-w.result c.read_version-w.ensures c.in-Version.v c.in-Version.is c.requires
