@@ -17,8 +17,7 @@ use rangeset::{count, identifier_bytes, read};
 
 // ---- the reading
 
-#[unsafe(no_mangle)]
-pub extern "C" fn maluwesi_count(
+pub fn maluwesi_count(
     text: &[u8],
     mode: u8,
     ranges: &mut usize,
@@ -35,8 +34,7 @@ pub extern "C" fn maluwesi_count(
     put_counts(count(text, compat), ranges, comparators, identifiers)
 }
 
-#[unsafe(no_mangle)]
-pub extern "C" fn maluwesi_read(
+pub fn maluwesi_read(
     text: &[u8],
     mode: u8,
     words: &mut [u64],
@@ -59,8 +57,7 @@ pub extern "C" fn maluwesi_read(
 }
 
 // Where the identifier's bytes begin in the text, and how many they are. The empty part begins at 0. It never refuses.
-#[unsafe(no_mangle)]
-pub extern "C" fn maluwesi_identifier_bytes(
+pub fn maluwesi_identifier_bytes(
     text: &[u8],
     place: usize,
     len: usize,
@@ -81,13 +78,7 @@ pub extern "C" fn maluwesi_identifier_bytes(
 
 // ---- the normal text
 
-#[unsafe(no_mangle)]
-pub extern "C" fn maluwesi_normal_text_len(
-    text: &[u8],
-    mode: u8,
-    lent: usize,
-    len: &mut usize,
-) -> u64
+pub fn maluwesi_normal_text_len(text: &[u8], mode: u8, lent: usize, len: &mut usize) -> u64
     ensures { length_is result len.new ≡ normal_text_outcome (under mode (λ m. normal_text_call m text.now lent)) }
 {
     let m = mode_of(mode);
@@ -98,13 +89,7 @@ pub extern "C" fn maluwesi_normal_text_len(
     put_length(normal_text_len(text, compat, lent), len)
 }
 
-#[unsafe(no_mangle)]
-pub extern "C" fn maluwesi_normal_text(
-    text: &[u8],
-    mode: u8,
-    out: &mut [u8],
-    len: &mut usize,
-) -> u64
+pub fn maluwesi_normal_text(text: &[u8], mode: u8, out: &mut [u8], len: &mut usize) -> u64
     ensures answer { length_is result len.new ≡ normal_text_outcome (under mode (λ m. normal_text_call m text.now (length out.old))) }
     ensures bytes { out.new ≡ bytes_after (under mode (λ m. normal_text_call m text.now (length out.old))) out.old }
 {
@@ -119,8 +104,7 @@ pub extern "C" fn maluwesi_normal_text(
 
 // ---- admission
 
-#[unsafe(no_mangle)]
-pub extern "C" fn maluwesi_admit(text: &[u8], mode: u8, version: &[u8], admitted: &mut u8) -> u64
+pub fn maluwesi_admit(text: &[u8], mode: u8, version: &[u8], admitted: &mut u8) -> u64
     ensures { verdict_is result admitted.new ≡ verdict (under mode (λ m. admission_call m text.now version.now)) }
 {
     let m = mode_of(mode);

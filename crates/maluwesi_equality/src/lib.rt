@@ -65,8 +65,7 @@ fn put_reread(
 }
 
 // Writes the normal text under the first mode, and reads it under the other.
-#[unsafe(no_mangle)]
-pub extern "C" fn maluwesi_read_normal_text(
+pub fn maluwesi_read_normal_text(
     text: &[u8],
     mode: u8,
     other: u8,
@@ -115,8 +114,7 @@ fn put_equal(r: Equality, equal: &mut u8) -> u64
 }
 
 // Whether the readings of two texts are equal: 1 or 0 in equal.
-#[unsafe(no_mangle)]
-pub extern "C" fn maluwesi_equal_readings(
+pub fn maluwesi_equal_readings(
     text: &[u8],
     mode: u8,
     text2: &[u8],

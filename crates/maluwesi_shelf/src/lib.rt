@@ -70,16 +70,14 @@ fn put_fit(a: Fit, found: &mut u8, code: &mut u16) -> u64
 
 // ---- the calls that change a shelf
 
-#[unsafe(no_mangle)]
-pub extern "C" fn maluwesi_shelf_clear(shelf: &mut [u8]) -> u64
+pub fn maluwesi_shelf_clear(shelf: &mut [u8]) -> u64
     ensures value { result ≡ refusal_of (empty_call shelf.old) }
     ensures bytes { shelf.new ≡ shelf_after (empty_call shelf.old) shelf.old }
 {
     change_number(make_empty(shelf))
 }
 
-#[unsafe(no_mangle)]
-pub extern "C" fn maluwesi_shelf_add(shelf: &mut [u8], code: u16, mode: u8, text: &[u8]) -> u64
+pub fn maluwesi_shelf_add(shelf: &mut [u8], code: u16, mode: u8, text: &[u8]) -> u64
     ensures value { result ≡ refusal_of (under mode (λ m. add_call code m text.now shelf.old)) }
     ensures bytes { shelf.new ≡ shelf_after (under mode (λ m. add_call code m text.now shelf.old)) shelf.old }
 {
@@ -90,8 +88,7 @@ pub extern "C" fn maluwesi_shelf_add(shelf: &mut [u8], code: u16, mode: u8, text
     change_number(add(shelf, code, compat, text))
 }
 
-#[unsafe(no_mangle)]
-pub extern "C" fn maluwesi_shelf_remove(shelf: &mut [u8], code: u16) -> u64
+pub fn maluwesi_shelf_remove(shelf: &mut [u8], code: u16) -> u64
     ensures value { result ≡ refusal_of (remove_call code shelf.old) }
     ensures bytes { shelf.new ≡ shelf_after (remove_call code shelf.old) shelf.old }
 {
@@ -100,38 +97,20 @@ pub extern "C" fn maluwesi_shelf_remove(shelf: &mut [u8], code: u16) -> u64
 
 // ---- the listing, first fit, and the lookup
 
-#[unsafe(no_mangle)]
-pub extern "C" fn maluwesi_shelf_find(
-    shelf: &[u8],
-    code: u16,
-    place: &mut usize,
-    len: &mut usize,
-) -> u64
+pub fn maluwesi_shelf_find(shelf: &[u8], code: u16, place: &mut usize, len: &mut usize) -> u64
     ensures { found_is result place.new len.new ≡ found_part (list_call code shelf.now) }
 {
     put_part(list(shelf, code), place, len)
 }
 
-#[unsafe(no_mangle)]
-pub extern "C" fn maluwesi_shelf_first_fit(
-    shelf: &[u8],
-    version: &[u8],
-    found: &mut u8,
-    code: &mut u16,
-) -> u64
+pub fn maluwesi_shelf_first_fit(shelf: &[u8], version: &[u8], found: &mut u8, code: &mut u16) -> u64
     ensures { fit_is result found.new code.new ≡ first_fit (first_fit_call admits version.now shelf.now) }
 {
     put_fit(first_fit(shelf, version), found, code)
 }
 
 // As first fit, by the kept triples first.
-#[unsafe(no_mangle)]
-pub extern "C" fn maluwesi_shelf_lookup(
-    shelf: &[u8],
-    version: &[u8],
-    found: &mut u8,
-    code: &mut u16,
-) -> u64
+pub fn maluwesi_shelf_lookup(shelf: &[u8], version: &[u8], found: &mut u8, code: &mut u16) -> u64
     ensures { fit_is result found.new code.new ≡ first_fit (lookup_call admits version.now shelf.now) }
 {
     put_fit(lookup(shelf, version), found, code)
