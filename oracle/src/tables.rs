@@ -37,23 +37,23 @@ fn counts(rows: &[String], answers: [&str; 3]) -> String {
 const TEXTS_HEAD: &str = "\
 -- Texts with what the crate semver-parser 0.10.3 returned for them. Written by oracle/tables.
 -- Assumes nothing.
-use mathlib.Core.List.{List, [], _∷_}
-use Rattle·rules.specs.Bytes.{bytes}
-use Rattle·rules.specs.Syntax.{number, text, lt, lte, gt, gte, eq}
-use Rattle·rules.specs.Expansion.{comparator}
-use Rattle·reference.specs.Range.{Cargo, Npm}
-use Rattle·reference.specs.RangeSet.{Ok, Err, panicked}
-use Rattle·reference_tables·specs.specs.Rows.{Row, row, both}
+use Rattle.std.specs.Prelude.{List, [], ◌∷◌}
+use Rattle.rules.specs.Bytes.{bytes}
+use Rattle.rules.specs.Syntax.{number, text, lt, lte, gt, gte, eq}
+use Rattle.rules.specs.Expansion.{comparator}
+use Rattle.reference.specs.Range.{Cargo, Npm}
+use Rattle.reference.specs.RangeSet.{Ok, Err, panicked}
+use Rattle.reference_tables.specs.Rows.{Row, row, both}
 ";
 
 const CALLS_HEAD: &str = "\
 -- Calls of pest's methods with what pest 2.5.2 answered to them. Written by oracle/tables.
 -- Assumes nothing.
-use mathlib.Core.List.{List, [], _∷_}
-use Rattle·rules.specs.Bytes.{bytes}
-use Rattle·reference.specs.Rule.{Rule}
-use Rattle·reference.specs.Pest.{end, pair, ok, err, endless, unchanged, start-of-input, end-of-input, match-string, match-range, _and-then_, _or-else_, sequence, optional, repeat, rule}
-use Rattle·reference_tables·specs.specs.Rows.{Call, call}
+use Rattle.std.specs.Prelude.{List, [], ◌∷◌}
+use Rattle.rules.specs.Bytes.{bytes}
+use Rattle.reference.specs.Rule.{Rule}
+use Rattle.reference.specs.Pest.{end, pair, ok, err, endless, unchanged, start-of-input, end-of-input, match-string, match-range, ◌and-then◌, ◌or-else◌, sequence, optional, repeat, rule}
+use Rattle.reference_tables.specs.Rows.{Call, call}
 ";
 
 fn list_of_rows(name: &str, of: &str, rows: &[String]) -> String {
