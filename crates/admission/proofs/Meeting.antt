@@ -24,9 +24,7 @@ use Rattle.partial.specs.Views.{op_of}
 use Rattle.partial.specs.declared.Op.{Op}
 use Rattle.partial.specs.declared.Comparator.{Comparator}
 use Rattle.range.specs.declared.Kept.{Kept}
-use Rattle.range.specs.declared.Kept.TheVariants as Kept
 use Rattle.range.specs.declared.Raised.{Raised}
-use Rattle.range.specs.declared.Raised.TheVariants as Raised
 use Rattle.walk.specs.declared.Step.{Step}
 use Rattle.passes.specs.Views.{raised_count, kept_with, raised_to, comparator_of, kept_gives, raised_gives, step_gives, step_identifiers, Raisable, Known}
 use Rattle.passes.proofs.Raising.{gives_none, gives_one}

@@ -13,7 +13,6 @@ use Rattle.version.specs.Views.{version_text_of}
 use Rattle.version.specs.declared.Version.{Version}
 use Rattle.version.specs.declared.VersionText.TheVariants as VersionText
 use Rattle.admission.specs.declared.Admission.{Admission}
-use Rattle.admission.specs.declared.Admission.TheVariants as Admission
 
 -- ---- a version text
 

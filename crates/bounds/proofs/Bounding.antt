@@ -14,9 +14,7 @@ use Rattle.rules.specs.Walk as W
 use Rattle.rules.specs.Walk.{goes_on, push}
 use Rattle.partial.proofs.Unread.{Rest}
 use Rattle.range.specs.declared.Kept.{Kept}
-use Rattle.range.specs.declared.Kept.TheVariants as Kept
 use Rattle.range.specs.declared.Raised.{Raised}
-use Rattle.range.specs.declared.Raised.TheVariants as Raised
 use Rattle.walk.specs.Views.{stage_of, step_at, is_range}
 use Rattle.walk.specs.declared.Stage.{Stage}
 use Rattle.walk.specs.declared.Stage.TheVariants as Stages

@@ -10,7 +10,6 @@ use Rattle.partial.specs.declared.Op.{Op}
 use Rattle.partial.specs.declared.Comparator.{Comparator}
 use Rattle.range.specs.declared.Kept.TheVariants as Kept
 use Rattle.range.specs.declared.Raised.{Raised}
-use Rattle.range.specs.declared.Raised.TheVariants as Raised
 use Rattle.walk.specs.Views.{is_range}
 use Rattle.walk.specs.declared.Step.{Step}
 use Rattle.passes.specs.Views.{raised_count, raised_to}

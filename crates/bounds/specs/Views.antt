@@ -5,9 +5,7 @@ use Rattle.rules.specs.Walk as W
 use Rattle.partial.specs.Views.{op_of}
 use Rattle.partial.specs.declared.Comparator.{Comparator}
 use Rattle.range.specs.declared.Kept.{Kept}
-use Rattle.range.specs.declared.Kept.TheVariants as Kept
 use Rattle.range.specs.declared.Raised.{Raised}
-use Rattle.range.specs.declared.Raised.TheVariants as Raised
 use Rattle.walk.specs.Views.{is_range}
 use Rattle.walk.specs.declared.Step.{Step}
 use Rattle.passes.specs.Views.{raised_to}

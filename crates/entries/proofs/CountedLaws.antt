@@ -17,9 +17,7 @@ use Rattle.shelf_rules.proofs.TableLaws.{rows-length, rows_at}
 use Rattle.shelf_rules.proofs.EntryLaws.{find-within}
 use Rattle.entries.specs.Views.{Counted, row_at, count_of, found_of}
 use Rattle.entries.specs.declared.Count.{Count}
-use Rattle.entries.specs.declared.Count.TheVariants as Count
 use Rattle.entries.specs.declared.Found.{Found}
-use Rattle.entries.specs.declared.Found.TheVariants as Found
 
 -- ---- a shelf, or 10
 

@@ -7,9 +7,7 @@ use Rattle.shelf_rules.specs.Shelf as S
 use Rattle.shelf_rules.specs.Shelf.{shelf_size, capacity, entry_width, count_in, text_in}
 use Rattle.entries.specs.declared.Part.{Part}
 use Rattle.entries.specs.declared.Found.{Found}
-use Rattle.entries.specs.declared.Found.TheVariants as Found
 use Rattle.entries.specs.declared.Count.{Count}
-use Rattle.entries.specs.declared.Count.TheVariants as Count
 
 -- ---- what is known
 

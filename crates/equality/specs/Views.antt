@@ -10,11 +10,8 @@ use Rattle.rangeset.specs.Views.{number_of, outcome_of}
 use Rattle.rangeset.specs.declared.Counts.{Counts}
 use Rattle.rangeset.specs.declared.Reading.TheVariants as Reading
 use Rattle.normal_text.specs.declared.NormalText.{NormalText}
-use Rattle.normal_text.specs.declared.NormalText.TheVariants as NormalText
 use Rattle.equality.specs.declared.Reread.{Reread}
-use Rattle.equality.specs.declared.Reread.TheVariants as Reread
 use Rattle.equality.specs.declared.Equality.{Equality}
-use Rattle.equality.specs.declared.Equality.TheVariants as Equality
 
 -- The text is accepted, and its normal text fits so many bytes.
 pub record Fits (m : Compat) (s : List ℕ) (lent : ℕ) : Type 0 where

@@ -16,7 +16,6 @@ use Rattle.rules.specs.Admission.{admits, admits_if, version_of}
 use Rattle.range.specs.Views.{compat_of, mode_is}
 use Rattle.range.specs.declared.Compat.{Compat}
 use Rattle.range.specs.declared.Mode.{Mode}
-use Rattle.range.specs.declared.Mode.TheVariants as Mode
 use Rattle.version.specs.Views.{version_text_of}
 use Rattle.version.specs.declared.Version.{Version}
 use Rattle.version.specs.declared.VersionText.{VersionText}
@@ -27,7 +26,6 @@ use Rattle.shelf_rules.specs.Table.{rows_of}
 use Rattle.shelf_rules.specs.Shelf.{code_in, count_in, shelf_in, entry_fits, first_code, first_fit_call}
 use Rattle.entries.specs.Views.{Counted, row_at, count_of}
 use Rattle.entries.specs.declared.Count.{Count}
-use Rattle.entries.specs.declared.Count.TheVariants as Count
 use Rattle.entries.proofs.CountedLaws.{counted-shelf, whole-counted, whole-not, rows-within, entries-are}
 use Rattle.entries.proofs.Finding.{no_row, next_row}
 use Rattle.first_fit.specs.Views.{fit_of}

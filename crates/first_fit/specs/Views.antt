@@ -5,7 +5,6 @@ use Rattle.std.proofs.Math.Option.{Option, none, some}
 use Rattle.rules.specs.Answers.{Answer, accepted, refused}
 use Rattle.rangeset.specs.Views.{number_of}
 use Rattle.first_fit.specs.declared.Fit.{Fit}
-use Rattle.first_fit.specs.declared.Fit.TheVariants as Fit
 
 abbrev pub fit_of : Fit → Answer (Option ℕ)
 fit_of (Fit.Code c) = accepted (some c)

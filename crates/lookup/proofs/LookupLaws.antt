@@ -28,7 +28,6 @@ use Rattle.triples.specs.Views.{bounds_is}
 use Rattle.triples.specs.declared.Bounds.{Bounds}
 use Rattle.entries.specs.Views.{Counted, row_at, count_of}
 use Rattle.entries.specs.declared.Count.{Count}
-use Rattle.entries.specs.declared.Count.TheVariants as Count
 use Rattle.entries.proofs.CountedLaws.{counted-shelf, whole-counted, whole-not, entries-are}
 use Rattle.entries.proofs.Finding.{no_row, next_row}
 use Rattle.first_fit.specs.Views.{fit_of}

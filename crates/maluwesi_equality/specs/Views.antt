@@ -7,7 +7,6 @@ use Rattle.rules.specs.Exported.{RereadNumbers}
 use Rattle.numbers.specs.Views.{outcome}
 use Rattle.range.specs.Views.{compat_of}
 use Rattle.maluwesi_equality.specs.declared.Modes.{Modes}
-use Rattle.maluwesi_equality.specs.declared.Modes.TheVariants as Modes
 
 abbrev pub modes_are : Modes → Answer (E.Compat × E.Compat)
 modes_are (Modes.Compats m m') = accepted (compat_of m, compat_of m')

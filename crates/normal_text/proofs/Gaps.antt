@@ -16,7 +16,6 @@ use Rattle.rows.specs.Put.{Put}
 use Rattle.passes.specs.Views.{opened, comparator_count_of}
 use Rattle.normal_text.specs.Views.{gap_of, gap_behind, gap_to}
 use Rattle.normal_text.specs.declared.Gap.{Gap}
-use Rattle.normal_text.specs.declared.Gap.TheVariants as Gap
 
 -- ---- gap_len, put_gap
 

@@ -13,7 +13,6 @@ use Rattle.rules.proofs.WalkText.{spell-none, spell_one, spell-append}
 use Rattle.partial.specs.declared.Op.{Op}
 use Rattle.partial.specs.declared.Comparator.{Comparator}
 use Rattle.range.specs.declared.Kept.{Kept}
-use Rattle.range.specs.declared.Kept.TheVariants as Kept
 use Rattle.walk.specs.declared.Step.{Step}
 use Rattle.rows.specs.Put.{Put}
 use Rattle.rows.proofs.Puts.{put_then, put_same}

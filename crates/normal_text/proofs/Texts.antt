@@ -19,9 +19,7 @@ use Rattle.rules.proofs.WalkText.{text-push, text-open, expand-text}
 use Rattle.rules.proofs.NormalTextCall.{normal_text-accepted}
 use Rattle.partial.proofs.Unread.{Rest}
 use Rattle.range.specs.declared.Kept.{Kept}
-use Rattle.range.specs.declared.Kept.TheVariants as Kept
 use Rattle.range.specs.declared.Raised.{Raised}
-use Rattle.range.specs.declared.Raised.TheVariants as Raised
 use Rattle.walk.specs.Views.{stage_of, step_at}
 use Rattle.walk.specs.declared.Stage.{Stage}
 use Rattle.walk.specs.declared.Stage.TheVariants as Stages
@@ -34,7 +32,6 @@ use Rattle.passes.proofs.Passing.{Passing, starting, Passes, passes, passes-fewe
 use Rattle.passes.proofs.Folds.{todo, next_at, todo-next, todo-end, todo-push}
 use Rattle.normal_text.specs.Views.{gap_of, gap_behind, gap_to}
 use Rattle.normal_text.specs.declared.Gap.{Gap}
-use Rattle.normal_text.specs.declared.Gap.TheVariants as Gap
 
 -- ---- the bytes of a step
 

@@ -7,15 +7,12 @@ use Rattle.rules.specs.Walk as W
 use Rattle.rules.specs.Walk.{spell_gap}
 use Rattle.partial.specs.declared.Comparator.{Comparator}
 use Rattle.range.specs.declared.Kept.{Kept}
-use Rattle.range.specs.declared.Kept.TheVariants as Kept
 use Rattle.spelling.specs.Views.{spelled_triple}
 use Rattle.walk.specs.declared.Step.{Step}
 use Rattle.passes.specs.Views.{comparator_count_of}
 use Rattle.rangeset.specs.Views.{number_of}
 use Rattle.normal_text.specs.declared.Gap.{Gap}
-use Rattle.normal_text.specs.declared.Gap.TheVariants as Gap
 use Rattle.normal_text.specs.declared.NormalText.{NormalText}
-use Rattle.normal_text.specs.declared.NormalText.TheVariants as NormalText
 
 -- ---- between comparators
 

@@ -8,7 +8,6 @@ use mir.Val.{Fits}
 use mir.Syntax.{w64}
 use Rattle.rules.specs.Bytes.{largest}
 use Rattle.range.specs.declared.Raised.{Raised}
-use Rattle.range.specs.declared.Raised.TheVariants as Raised
 use Rattle.walk.specs.declared.Step.{Step}
 use Rattle.passes.specs.Views.{raised_count, below, raised_to, Raisable, comparator_of, raised_gives}
 

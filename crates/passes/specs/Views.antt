@@ -9,12 +9,9 @@ use Rattle.rules.specs.Answers.{accepted, longest, reading}
 use Rattle.rules.specs.Walk.{Stage, item, range, right, only, end, bad}
 use Rattle.partial.specs.Views.{op_of}
 use Rattle.partial.specs.declared.Op.{Op}
-use Rattle.partial.specs.declared.Op.TheVariants as Op
 use Rattle.partial.specs.declared.Comparator.{Comparator}
 use Rattle.range.specs.declared.Kept.{Kept}
-use Rattle.range.specs.declared.Kept.TheVariants as Kept
 use Rattle.range.specs.declared.Raised.{Raised}
-use Rattle.range.specs.declared.Raised.TheVariants as Raised
 use Rattle.walk.specs.Views.{step_at}
 use Rattle.walk.specs.declared.Step.{Step}
 

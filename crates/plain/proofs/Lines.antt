@@ -13,7 +13,6 @@ use Rattle.rules.specs.Plainform.{newline, without_newline, mode_letters, spell_
 use Rattle.rules.proofs.PlainformLaws.{lines-room}
 use Rattle.range.specs.Views.{compat_of}
 use Rattle.range.specs.declared.Compat.{Compat}
-use Rattle.range.specs.declared.Compat.TheVariants as Compat
 use Rattle.rows.specs.Put.{Put}
 use Rattle.rows.proofs.Puts.{put_then, put_same}
 

@@ -16,10 +16,8 @@ use Rattle.range.specs.Views.{compat_of, prefix_of, raised_of, expanding, expans
 use Rattle.range.specs.declared.Compat.{Compat}
 use Rattle.range.specs.declared.Compat.TheVariants.{Cargo, Npm}
 use Rattle.range.specs.declared.Prefix.{Prefix}
-use Rattle.range.specs.declared.Prefix.TheVariants as Prefix
 use Rattle.range.specs.declared.Kept.TheVariants as Kept
 use Rattle.range.specs.declared.Raised.{Raised}
-use Rattle.range.specs.declared.Raised.TheVariants as Raised
 use Rattle.range.specs.declared.Expansion.{Expansion}
 use Rattle.range.proofs.Shapes.{eq-shape, tilde-shape, op-shape, numbers}
 

@@ -18,7 +18,6 @@ use Rattle.partial.specs.Views.{op_of}
 use Rattle.partial.specs.declared.Op.TheVariants.{Lt, Lte, Gt, Gte, Eq}
 use Rattle.range.specs.Views.{prefix_of, op_for, prefix_for, leading, lead_of}
 use Rattle.range.specs.declared.Prefix.{Prefix}
-use Rattle.range.specs.declared.Prefix.TheVariants as Prefix
 use Rattle.range.specs.declared.Lead.{Lead}
 
 -- ---- two bytes, or the first of them

@@ -5,7 +5,6 @@ use Rattle.partial.specs.Views.{inc_major, inc_minor, inc_patch, zero_minor, zer
 use Rattle.partial.specs.declared.Partial.{Partial}
 use Rattle.range.specs.Views.{raised_partial}
 use Rattle.range.specs.declared.Raised.{Raised}
-use Rattle.range.specs.declared.Raised.TheVariants as Raised
 
 module _ (x : Raised) (p d c : Partial) (last : d ≡ no_pre c) where
   pub raise-major : x ≡ Raised.Major → (a b : Partial) → c ≡ zero_patch b → b ≡ zero_minor a → a ≡ inc_major p → d ≡ raised_partial x p

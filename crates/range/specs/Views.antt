@@ -14,14 +14,10 @@ use Rattle.partial.specs.declared.PartialKind.TheVariants.{XRangeOnly, MajorOnly
 use Rattle.range.specs.declared.Compat.{Compat}
 use Rattle.range.specs.declared.Compat.TheVariants.{Cargo, Npm}
 use Rattle.range.specs.declared.Mode.{Mode}
-use Rattle.range.specs.declared.Mode.TheVariants as Mode
 use Rattle.range.specs.declared.Prefix.{Prefix}
-use Rattle.range.specs.declared.Prefix.TheVariants as Prefix
 use Rattle.range.specs.declared.Lead.{Lead}
 use Rattle.range.specs.declared.Kept.{Kept}
-use Rattle.range.specs.declared.Kept.TheVariants as Kept
 use Rattle.range.specs.declared.Raised.{Raised}
-use Rattle.range.specs.declared.Raised.TheVariants as Raised
 use Rattle.range.specs.declared.Expansion.{Expansion}
 
 -- ---- what the code is given, as the rules have it

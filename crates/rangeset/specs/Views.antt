@@ -8,9 +8,7 @@ use Rattle.rules.specs.Walk as W
 use Rattle.rules.specs.Walk.{tally}
 use Rattle.rangeset.specs.declared.Tally.{Tally}
 use Rattle.rangeset.specs.declared.Refusal.{Refusal}
-use Rattle.rangeset.specs.declared.Refusal.TheVariants as Refusal
 use Rattle.rangeset.specs.declared.Reading.{Reading}
-use Rattle.rangeset.specs.declared.Reading.TheVariants as Reading
 
 -- ---- the measure
 

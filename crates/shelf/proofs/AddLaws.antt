@@ -29,9 +29,7 @@ use Rattle.triples.specs.Views.{bounds_is}
 use Rattle.triples.specs.declared.Bounds.{Bounds}
 use Rattle.entries.specs.Views.{Counted, count_of, found_of}
 use Rattle.entries.specs.declared.Count.{Count}
-use Rattle.entries.specs.declared.Count.TheVariants as Count
 use Rattle.entries.specs.declared.Found.{Found}
-use Rattle.entries.specs.declared.Found.TheVariants as Found
 use Rattle.entries.proofs.CountedLaws.{counted-shelf, lent-counted, lent-not, lent-rows-within, lent_found, found-is}
 use Rattle.shelf.specs.Views.{Enterable}
 use Rattle.shelf.proofs.ChangeLaws.{refused-number, refused-bytes, done-number, done-bytes}

@@ -12,9 +12,7 @@ use Rattle.shelf_rules.specs.Table.{rows_of}
 use Rattle.shelf_rules.specs.Shelf.{count_in, find_code, without_entry, sized, shelf_in, located, refusal_of, shelf_after, emptied, empty_call, remove_call}
 use Rattle.entries.specs.Views.{Counted, count_of, found_of}
 use Rattle.entries.specs.declared.Count.{Count}
-use Rattle.entries.specs.declared.Count.TheVariants as Count
 use Rattle.entries.specs.declared.Found.{Found}
-use Rattle.entries.specs.declared.Found.TheVariants as Found
 use Rattle.entries.proofs.CountedLaws.{counted-shelf, lent-counted, lent-not, lent-rows-within, lent_found, lent_below, found-is}
 
 -- ---- what a call that changes the shelf hands back and leaves, where its answer is known

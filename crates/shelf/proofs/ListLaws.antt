@@ -15,13 +15,10 @@ use Rattle.shelf_rules.proofs.ListingLaws.{listed-part, listed-within, refused-t
 use Rattle.entries.specs.Views.{Counted, count_of, found_of, part_of, part_at}
 use Rattle.entries.specs.declared.Part.{Part}
 use Rattle.entries.specs.declared.Count.{Count}
-use Rattle.entries.specs.declared.Count.TheVariants as Count
 use Rattle.entries.specs.declared.Found.{Found}
-use Rattle.entries.specs.declared.Found.TheVariants as Found
 use Rattle.entries.proofs.CountedLaws.{counted-shelf, whole-counted, whole-not, rows-within, found_below, found-is, entry-is}
 use Rattle.shelf.specs.Views.{listing_of}
 use Rattle.shelf.specs.declared.Listing.{Listing}
-use Rattle.shelf.specs.declared.Listing.TheVariants as Listing
 
 -- ---- list_counted
 

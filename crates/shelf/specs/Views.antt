@@ -7,9 +7,7 @@ use Rattle.rangeset.specs.Views.{number_of}
 use Rattle.shelf_rules.specs.Shelf.{Part, entry_reading}
 use Rattle.entries.specs.Views.{part_of}
 use Rattle.shelf.specs.declared.Change.{Change}
-use Rattle.shelf.specs.declared.Change.TheVariants as Change
 use Rattle.shelf.specs.declared.Listing.{Listing}
-use Rattle.shelf.specs.declared.Listing.TheVariants as Listing
 
 -- none of 1 to 4 applies to the text of an entry
 pub record Enterable (m : Compat) (t : List ℕ) : Type 0 where

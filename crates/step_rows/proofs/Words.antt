@@ -14,9 +14,7 @@ use Rattle.rules.specs.Rows.{comparator_row, piece_rows, identifier_row}
 use Rattle.rules.specs.Walk.{piece_identifier_words}
 use Rattle.rules.proofs.WalkWords.{concat-map-append}
 use Rattle.range.specs.declared.Kept.{Kept}
-use Rattle.range.specs.declared.Kept.TheVariants as Kept
 use Rattle.range.specs.declared.Raised.{Raised}
-use Rattle.range.specs.declared.Raised.TheVariants as Raised
 use Rattle.walk.specs.declared.Step.{Step}
 use Rattle.rows.specs.Views as Rows
 use Rattle.passes.specs.Views.{kept_gives, raised_gives, step_gives, step_identifiers}

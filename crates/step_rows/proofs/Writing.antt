@@ -10,7 +10,6 @@ use Rattle.partial.specs.declared.Op.{Op}
 use Rattle.partial.specs.declared.Comparator.{Comparator}
 use Rattle.range.specs.declared.Kept.TheVariants as Kept
 use Rattle.range.specs.declared.Raised.{Raised}
-use Rattle.range.specs.declared.Raised.TheVariants as Raised
 use Rattle.walk.specs.declared.Step.{Step}
 use Rattle.rules.specs.Rows.{comparator_width}
 use Rattle.rows.specs.Put.{Put}

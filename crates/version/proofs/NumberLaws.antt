@@ -24,7 +24,6 @@ use Rattle.partial.specs.Views.{read_dot_number}
 use Rattle.partial.proofs.Reading.{dot_number-behind, dot_number-within, Numbered, numbered, unnumbered}
 use Rattle.version.specs.Views.{read_numbers, no_numbers, numbers_of}
 use Rattle.version.specs.declared.Numbers.{Numbers}
-use Rattle.version.specs.declared.Version.{Version}
 
 pub numbers-behind : (s : List ℕ) → Gives (λ v. Behind 1 s) (read_numbers s)
 unfolding read_numbers read_after_dot read_dot_number

@@ -23,7 +23,6 @@ use Rattle.partial.specs.Views.{beginning, on_rest}
 use Rattle.version.specs.Views.{read_numbers, numbers_of, read_tail, tail_of, prerelease_from, version_text_of}
 use Rattle.version.specs.declared.Numbers.{Numbers}
 use Rattle.version.specs.declared.Tail.{Tail}
-use Rattle.version.specs.declared.Version.{Version}
 use Rattle.version.specs.declared.VersionText.TheVariants as T
 use Rattle.version.proofs.NumberLaws.{numbers-behind, numbers-left}
 

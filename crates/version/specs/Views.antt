@@ -16,7 +16,6 @@ use Rattle.version.specs.declared.Part.{Part}
 use Rattle.version.specs.declared.Part.TheVariants.{Prerelease, Build}
 use Rattle.version.specs.declared.Numbers.{Numbers}
 use Rattle.version.specs.declared.Tail.{Tail}
-use Rattle.version.specs.declared.Version.{Version}
 use Rattle.version.specs.declared.VersionText.{VersionText}
 use Rattle.version.specs.declared.VersionText.TheVariants as T
 

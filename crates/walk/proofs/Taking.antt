@@ -14,7 +14,7 @@ use mir.Val.{Fits}
 use mir.Syntax.{w64}
 use Rattle.rules.specs.Bytes.{pick, largest}
 use Rattle.rules.specs.Syntax as S
-use Rattle.rules.specs.Parse.{count, skip}
+use Rattle.rules.specs.Parse.{skip}
 use Rattle.rules.specs.Expansion as E
 use Rattle.rules.specs.Expansion.{major_of, minor_of, patch_of, expand_item, expand_left, expand_right, partial_in}
 use Rattle.rules.specs.Walk as W

@@ -1,6 +1,4 @@
-use Rattle.admission.proofs.Admitting.{Admitting-due, admitting}
-use Rattle.passes.proofs.Turn.{ahead}
-use Rattle.range.specs.Views.{compat_of}
+use Rattle.admission.proofs.Admitting.{admitting}
 use borrow.Author.Rules.{rules}
 use Rattle.admission.proofs.admits.Goals as goal
 

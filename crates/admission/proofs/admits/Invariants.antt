@@ -1,7 +1,6 @@
-use Rattle.admission.proofs.Admitting.{Admitting-due, admitting}
+use Rattle.admission.proofs.Admitting.{Admitting-due}
 use Rattle.passes.proofs.Turn.{ahead}
 use Rattle.range.specs.Views.{compat_of}
-use borrow.Author.Rules.{rules}
 use Rattle.admission.proofs.admits.Given as goal
 
 abbrev pub invariant-loop-compat : goal.invariant-loop-compat

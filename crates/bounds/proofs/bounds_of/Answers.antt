@@ -1,7 +1,4 @@
-use Rattle.bounds.proofs.Bounding.{Bounding-due, bounding}
-use Rattle.range.specs.Views.{compat_of}
-use Rattle.passes.proofs.Turn.{ahead}
-use Rattle.triples.specs.Views.{bounds_is}
+use Rattle.bounds.proofs.Bounding.{bounding}
 use borrow.Author.Rules.{rules}
 use Rattle.bounds.proofs.bounds_of.Goals as goal
 

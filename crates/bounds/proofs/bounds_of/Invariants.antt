@@ -1,8 +1,7 @@
-use Rattle.bounds.proofs.Bounding.{Bounding-due, bounding}
+use Rattle.bounds.proofs.Bounding.{Bounding-due}
 use Rattle.range.specs.Views.{compat_of}
 use Rattle.passes.proofs.Turn.{ahead}
 use Rattle.triples.specs.Views.{bounds_is}
-use borrow.Author.Rules.{rules}
 use Rattle.bounds.proofs.bounds_of.Given as goal
 
 abbrev pub invariant-loop-compat : goal.invariant-loop-compat

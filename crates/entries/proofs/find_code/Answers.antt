@@ -1,7 +1,4 @@
-use Rattle.entries.proofs.Finding.{Finding, findings}
-use Prim.Native.Nat.{◌-◌}
-use lib.ListN.{drop}
-use Rattle.shelf_rules.specs.Table.{rows_of}
+use Rattle.entries.proofs.Finding.{findings}
 use borrow.Author.Rules.{rules}
 use Rattle.entries.proofs.find_code.Goals as goal
 

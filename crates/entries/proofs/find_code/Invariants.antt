@@ -1,8 +1,7 @@
-use Rattle.entries.proofs.Finding.{Finding, findings}
+use Rattle.entries.proofs.Finding.{Finding}
 use Prim.Native.Nat.{◌-◌}
 use lib.ListN.{drop}
 use Rattle.shelf_rules.specs.Table.{rows_of}
-use borrow.Author.Rules.{rules}
 use Rattle.entries.proofs.find_code.Given as goal
 
 abbrev pub invariant-loop-k : goal.invariant-loop-k

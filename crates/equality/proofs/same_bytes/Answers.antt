@@ -1,6 +1,4 @@
-use Rattle.equality.proofs.Comparing.{Alike, likeness}
-use Prim.Native.Nat.{◌-◌}
-use lib.ListN.{length}
+use Rattle.equality.proofs.Comparing.{likeness}
 use borrow.Author.Rules.{rules}
 use Rattle.equality.proofs.same_bytes.Goals as goal
 

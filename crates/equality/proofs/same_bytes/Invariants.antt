@@ -1,7 +1,6 @@
-use Rattle.equality.proofs.Comparing.{Alike, likeness}
+use Rattle.equality.proofs.Comparing.{Alike}
 use Prim.Native.Nat.{◌-◌}
 use lib.ListN.{length}
-use borrow.Author.Rules.{rules}
 use Rattle.equality.proofs.same_bytes.Given as goal
 
 abbrev pub invariant-loop-i : goal.invariant-loop-i

@@ -1,10 +1,4 @@
-use Rattle.first_fit.proofs.FitLaws.{Fitting, fittings}
-use Prim.Native.Nat.{◌-◌}
-use lib.ListN.{drop}
-use Rattle.rules.specs.Admission.{admits}
-use Rattle.admission.specs.Views.{version_in}
-use Rattle.shelf_rules.specs.Table.{rows_of}
-use Rattle.shelf_rules.specs.Shelf.{entry_fits}
+use Rattle.first_fit.proofs.FitLaws.{fittings}
 use borrow.Author.Rules.{rules}
 use Rattle.first_fit.proofs.fit_version.Goals as goal
 

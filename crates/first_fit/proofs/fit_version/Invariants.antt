@@ -1,11 +1,10 @@
-use Rattle.first_fit.proofs.FitLaws.{Fitting, fittings}
+use Rattle.first_fit.proofs.FitLaws.{Fitting}
 use Prim.Native.Nat.{◌-◌}
 use lib.ListN.{drop}
 use Rattle.rules.specs.Admission.{admits}
 use Rattle.admission.specs.Views.{version_in}
 use Rattle.shelf_rules.specs.Table.{rows_of}
 use Rattle.shelf_rules.specs.Shelf.{entry_fits}
-use borrow.Author.Rules.{rules}
 use Rattle.first_fit.proofs.fit_version.Given as goal
 
 abbrev pub invariant-loop-k : goal.invariant-loop-k

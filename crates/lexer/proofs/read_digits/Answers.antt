@@ -1,6 +1,4 @@
-use Rattle.lexer.proofs.Numbers.{Summed, sums}
-use lib.ListN.{length}
-use Prim.Native.Nat.{◌-◌}
+use Rattle.lexer.proofs.Numbers.{sums}
 use borrow.Author.Rules.{rules}
 use Rattle.lexer.proofs.read_digits.Goals as goal
 

@@ -1,7 +1,6 @@
-use Rattle.lexer.proofs.Numbers.{Summed, sums}
+use Rattle.lexer.proofs.Numbers.{Summed}
 use lib.ListN.{length}
 use Prim.Native.Nat.{◌-◌}
-use borrow.Author.Rules.{rules}
 use Rattle.lexer.proofs.read_digits.Given as goal
 
 abbrev pub invariant-loop-i : goal.invariant-loop-i

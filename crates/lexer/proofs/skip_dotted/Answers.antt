@@ -1,6 +1,4 @@
-use Rattle.lexer.proofs.Counting.{Counted}
 use Rattle.lexer.proofs.IdentifierLaws.{dotteds}
-use Rattle.rules.specs.Parse.{read_dot_identifier}
 use borrow.Author.Rules.{rules}
 use Rattle.lexer.proofs.skip_dotted.Goals as goal
 

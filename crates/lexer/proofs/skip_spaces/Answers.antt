@@ -1,7 +1,4 @@
-use Rattle.lexer.proofs.Scan.{Scanned, scan}
-use Rattle.rules.specs.Bytes.{is_space}
-use lib.ListN.{length}
-use Prim.Native.Nat.{◌-◌}
+use Rattle.lexer.proofs.Scan.{scan}
 use borrow.Author.Rules.{rules}
 use Rattle.lexer.proofs.skip_spaces.Goals as goal
 

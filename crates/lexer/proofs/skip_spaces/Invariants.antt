@@ -1,8 +1,7 @@
-use Rattle.lexer.proofs.Scan.{Scanned, scan}
+use Rattle.lexer.proofs.Scan.{Scanned}
 use Rattle.rules.specs.Bytes.{is_space}
 use lib.ListN.{length}
 use Prim.Native.Nat.{◌-◌}
-use borrow.Author.Rules.{rules}
 use Rattle.lexer.proofs.skip_spaces.Given as goal
 
 abbrev pub invariant-loop-i : goal.invariant-loop-i

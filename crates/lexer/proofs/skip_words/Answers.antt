@@ -1,7 +1,4 @@
-use Rattle.lexer.proofs.Scan.{Scanned, parts}
-use Rattle.rules.specs.Bytes.{is_word}
-use lib.ListN.{length}
-use Prim.Native.Nat.{◌+◌, ◌-◌}
+use Rattle.lexer.proofs.Scan.{parts}
 use borrow.Author.Rules.{rules}
 use Rattle.lexer.proofs.skip_words.Goals as goal
 

@@ -1,8 +1,7 @@
-use Rattle.lexer.proofs.Scan.{Scanned, parts}
+use Rattle.lexer.proofs.Scan.{Scanned}
 use Rattle.rules.specs.Bytes.{is_word}
 use lib.ListN.{length}
 use Prim.Native.Nat.{◌+◌, ◌-◌}
-use borrow.Author.Rules.{rules}
 use Rattle.lexer.proofs.skip_words.Given as goal
 
 abbrev pub invariant-loop-p : goal.invariant-loop-p

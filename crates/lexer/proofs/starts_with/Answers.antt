@@ -1,6 +1,4 @@
-use Rattle.lexer.proofs.IdentifierLaws.{Matched, matches}
-use lib.ListN.{length}
-use Prim.Native.Nat.{◌-◌}
+use Rattle.lexer.proofs.IdentifierLaws.{matches}
 use borrow.Author.Rules.{rules}
 use Rattle.lexer.proofs.starts_with.Goals as goal
 

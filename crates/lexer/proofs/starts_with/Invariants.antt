@@ -1,7 +1,6 @@
-use Rattle.lexer.proofs.IdentifierLaws.{Matched, matches}
+use Rattle.lexer.proofs.IdentifierLaws.{Matched}
 use lib.ListN.{length}
 use Prim.Native.Nat.{◌-◌}
-use borrow.Author.Rules.{rules}
 use Rattle.lexer.proofs.starts_with.Given as goal
 
 abbrev pub invariant-loop-i : goal.invariant-loop-i

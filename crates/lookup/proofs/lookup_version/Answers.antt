@@ -1,10 +1,4 @@
-use Rattle.lookup.proofs.LookupLaws.{Looking, lookings}
-use Prim.Native.Nat.{◌-◌}
-use lib.ListN.{drop}
-use Rattle.rules.specs.Admission.{admits}
-use Rattle.admission.specs.Views.{version_in}
-use Rattle.shelf_rules.specs.Table.{rows_of}
-use Rattle.shelf_rules.specs.Lookup.{kept_fits}
+use Rattle.lookup.proofs.LookupLaws.{lookings}
 use borrow.Author.Rules.{rules}
 use Rattle.lookup.proofs.lookup_version.Goals as goal
 

@@ -1,11 +1,10 @@
-use Rattle.lookup.proofs.LookupLaws.{Looking, lookings}
+use Rattle.lookup.proofs.LookupLaws.{Looking}
 use Prim.Native.Nat.{◌-◌}
 use lib.ListN.{drop}
 use Rattle.rules.specs.Admission.{admits}
 use Rattle.admission.specs.Views.{version_in}
 use Rattle.shelf_rules.specs.Table.{rows_of}
 use Rattle.shelf_rules.specs.Lookup.{kept_fits}
-use borrow.Author.Rules.{rules}
 use Rattle.lookup.proofs.lookup_version.Given as goal
 
 abbrev pub invariant-loop-k : goal.invariant-loop-k

@@ -1,6 +1,4 @@
-use Rattle.memory.proofs.Pasting.{Pasting, clears}
-use Prim.Native.Nat.{◌-◌}
-use lib.ListN.{replicate}
+use Rattle.memory.proofs.Pasting.{clears}
 use borrow.Author.Rules.{rules}
 use Rattle.memory.proofs.clear.Goals as goal
 

@@ -1,7 +1,6 @@
-use Rattle.memory.proofs.Pasting.{Pasting, clears}
+use Rattle.memory.proofs.Pasting.{Pasting}
 use Prim.Native.Nat.{◌-◌}
 use lib.ListN.{replicate}
-use borrow.Author.Rules.{rules}
 use Rattle.memory.proofs.clear.Given as goal
 
 abbrev pub invariant-loop-i : goal.invariant-loop-i

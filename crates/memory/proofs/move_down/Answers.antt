@@ -1,6 +1,4 @@
-use Rattle.memory.proofs.Pasting.{Pasting, moves}
-use Prim.Native.Nat.{◌+◌, ◌-◌}
-use lib.ListN.{drop}
+use Rattle.memory.proofs.Pasting.{moves}
 use borrow.Author.Rules.{rules}
 use Rattle.memory.proofs.move_down.Goals as goal
 

@@ -1,7 +1,6 @@
-use Rattle.memory.proofs.Pasting.{Pasting, moves}
+use Rattle.memory.proofs.Pasting.{Pasting}
 use Prim.Native.Nat.{◌+◌, ◌-◌}
 use lib.ListN.{drop}
-use borrow.Author.Rules.{rules}
 use Rattle.memory.proofs.move_down.Given as goal
 
 abbrev pub invariant-loop-i : goal.invariant-loop-i

@@ -1,6 +1,4 @@
-use Rattle.normal_text.proofs.Texts.{Putting, putting}
-use Rattle.range.specs.Views.{compat_of}
-use Rattle.passes.proofs.Turn.{ahead}
+use Rattle.normal_text.proofs.Texts.{putting}
 use borrow.Author.Rules.{rules}
 use Rattle.normal_text.proofs.put_text.Goals as goal
 

@@ -1,6 +1,4 @@
-use Rattle.normal_text.proofs.Texts.{Counting, counting}
-use Rattle.range.specs.Views.{compat_of}
-use Rattle.passes.proofs.Turn.{ahead}
+use Rattle.normal_text.proofs.Texts.{counting}
 use borrow.Author.Rules.{rules}
 use Rattle.normal_text.proofs.text_len.Goals as goal
 

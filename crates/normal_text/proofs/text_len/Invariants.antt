@@ -1,7 +1,6 @@
-use Rattle.normal_text.proofs.Texts.{Counting, counting}
+use Rattle.normal_text.proofs.Texts.{Counting}
 use Rattle.range.specs.Views.{compat_of}
 use Rattle.passes.proofs.Turn.{ahead}
-use borrow.Author.Rules.{rules}
 use Rattle.normal_text.proofs.text_len.Given as goal
 
 abbrev pub invariant-loop-compat : goal.invariant-loop-compat

@@ -1,6 +1,4 @@
-use Rattle.precedence.proofs.ByteLaws.{Same, byte-orders}
-use lib.ListN.{length}
-use Prim.Native.Nat.{◌-◌}
+use Rattle.precedence.proofs.ByteLaws.{byte-orders}
 use borrow.Author.Rules.{rules}
 use Rattle.precedence.proofs.compare_bytes.Goals as goal
 

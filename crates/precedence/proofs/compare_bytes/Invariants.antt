@@ -1,7 +1,6 @@
-use Rattle.precedence.proofs.ByteLaws.{Same, byte-orders}
+use Rattle.precedence.proofs.ByteLaws.{Same}
 use lib.ListN.{length}
 use Prim.Native.Nat.{◌-◌}
-use borrow.Author.Rules.{rules}
 use Rattle.precedence.proofs.compare_bytes.Given as goal
 
 abbrev pub invariant-loop-at : goal.invariant-loop-at

@@ -1,6 +1,4 @@
-use Rattle.precedence.proofs.Comparing.{Comparing, comparisons}
-use lib.ListN.{length}
-use Prim.Native.Nat.{◌-◌}
+use Rattle.precedence.proofs.Comparing.{comparisons}
 use borrow.Author.Rules.{rules}
 use Rattle.precedence.proofs.compare_identifiers.Goals as goal
 

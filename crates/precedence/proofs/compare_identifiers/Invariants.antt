@@ -1,7 +1,6 @@
-use Rattle.precedence.proofs.Comparing.{Comparing, comparisons}
+use Rattle.precedence.proofs.Comparing.{Comparing}
 use lib.ListN.{length}
 use Prim.Native.Nat.{◌-◌}
-use borrow.Author.Rules.{rules}
 use Rattle.precedence.proofs.compare_identifiers.Given as goal
 
 abbrev pub invariant-loop-i : goal.invariant-loop-i

@@ -1,6 +1,4 @@
-use Rattle.range_rows.proofs.Items.{Furthering, furthering}
-use Rattle.passes.proofs.Turn.{ahead}
-use Rattle.range.specs.Views.{compat_of}
+use Rattle.range_rows.proofs.Items.{furthering}
 use borrow.Author.Rules.{rules}
 use Rattle.range_rows.proofs.put_further.Goals as goal
 

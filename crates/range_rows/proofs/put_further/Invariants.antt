@@ -1,7 +1,6 @@
-use Rattle.range_rows.proofs.Items.{Furthering, furthering}
+use Rattle.range_rows.proofs.Items.{Furthering}
 use Rattle.passes.proofs.Turn.{ahead}
 use Rattle.range.specs.Views.{compat_of}
-use borrow.Author.Rules.{rules}
 use Rattle.range_rows.proofs.put_further.Given as goal
 
 abbrev pub invariant-loop-compat : goal.invariant-loop-compat

@@ -1,7 +1,4 @@
-use Rattle.range_rows.proofs.Ranges.{Putting, putting, put-words, put-ids, put_count}
-use Rattle.range.specs.Views.{compat_of}
-use lib.ListN.{length}
-use Prim.Native.Nat.{◌-◌}
+use Rattle.range_rows.proofs.Ranges.{putting, put-words, put-ids, put_count}
 use borrow.Author.Rules.{rules}
 use Rattle.range_rows.proofs.put_ranges.Goals as goal
 

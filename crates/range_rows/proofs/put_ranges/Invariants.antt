@@ -1,8 +1,7 @@
-use Rattle.range_rows.proofs.Ranges.{Putting, putting, put-words, put-ids, put_count}
+use Rattle.range_rows.proofs.Ranges.{Putting}
 use Rattle.range.specs.Views.{compat_of}
 use lib.ListN.{length}
 use Prim.Native.Nat.{◌-◌}
-use borrow.Author.Rules.{rules}
 use Rattle.range_rows.proofs.put_ranges.Given as goal
 
 abbrev pub invariant-loop-compat : goal.invariant-loop-compat

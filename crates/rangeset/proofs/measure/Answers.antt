@@ -1,6 +1,4 @@
-use Rattle.rangeset.proofs.Measuring.{Measured, measuring}
-use Rattle.passes.proofs.Turn.{ahead}
-use Rattle.range.specs.Views.{compat_of}
+use Rattle.rangeset.proofs.Measuring.{measuring}
 use borrow.Author.Rules.{rules}
 use Rattle.rangeset.proofs.measure.Goals as goal
 

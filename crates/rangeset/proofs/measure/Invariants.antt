@@ -1,7 +1,6 @@
-use Rattle.rangeset.proofs.Measuring.{Measured, measuring}
+use Rattle.rangeset.proofs.Measuring.{Measured}
 use Rattle.passes.proofs.Turn.{ahead}
 use Rattle.range.specs.Views.{compat_of}
-use borrow.Author.Rules.{rules}
 use Rattle.rangeset.proofs.measure.Given as goal
 
 abbrev pub invariant-loop-compat : goal.invariant-loop-compat

@@ -1,6 +1,4 @@
-use Rattle.rows.proofs.Storing.{Storing, storings}
-use lib.ListN.{length}
-use Prim.Native.Nat.{◌-◌}
+use Rattle.rows.proofs.Storing.{storings}
 use borrow.Author.Rules.{rules}
 use Rattle.rows.proofs.put_identifiers.Goals as goal
 

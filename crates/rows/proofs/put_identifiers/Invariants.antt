@@ -1,7 +1,6 @@
-use Rattle.rows.proofs.Storing.{Storing, storings}
+use Rattle.rows.proofs.Storing.{Storing}
 use lib.ListN.{length}
 use Prim.Native.Nat.{◌-◌}
-use borrow.Author.Rules.{rules}
 use Rattle.rows.proofs.put_identifiers.Given as goal
 
 abbrev pub invariant-loop-from : goal.invariant-loop-from

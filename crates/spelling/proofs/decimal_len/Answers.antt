@@ -1,4 +1,4 @@
-use Rattle.spelling.proofs.Digits.{Counted, counts}
+use Rattle.spelling.proofs.Digits.{counts}
 use borrow.Author.Rules.{rules}
 use Rattle.spelling.proofs.decimal_len.Goals as goal
 

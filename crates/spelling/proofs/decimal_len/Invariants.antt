@@ -1,5 +1,4 @@
-use Rattle.spelling.proofs.Digits.{Counted, counts}
-use borrow.Author.Rules.{rules}
+use Rattle.spelling.proofs.Digits.{Counted}
 use Rattle.spelling.proofs.decimal_len.Given as goal
 
 abbrev pub invariant-loop-rest : goal.invariant-loop-rest

@@ -1,6 +1,4 @@
-use Rattle.spelling.proofs.Copying.{Copying, copies}
-use lib.ListN.{length}
-use Prim.Native.Nat.{◌-◌}
+use Rattle.spelling.proofs.Copying.{copies}
 use borrow.Author.Rules.{rules}
 use Rattle.spelling.proofs.put_bytes.Goals as goal
 

@@ -1,7 +1,6 @@
-use Rattle.spelling.proofs.Copying.{Copying, copies}
+use Rattle.spelling.proofs.Copying.{Copying}
 use lib.ListN.{length}
 use Prim.Native.Nat.{◌-◌}
-use borrow.Author.Rules.{rules}
 use Rattle.spelling.proofs.put_bytes.Given as goal
 
 abbrev pub invariant-loop-i : goal.invariant-loop-i

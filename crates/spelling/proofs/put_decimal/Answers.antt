@@ -1,4 +1,4 @@
-use Rattle.spelling.proofs.Digits.{Backwards, backwards}
+use Rattle.spelling.proofs.Digits.{backwards}
 use borrow.Author.Rules.{rules}
 use Rattle.spelling.proofs.put_decimal.Goals as goal
 

@@ -1,5 +1,4 @@
-use Rattle.spelling.proofs.Digits.{Backwards, backwards}
-use borrow.Author.Rules.{rules}
+use Rattle.spelling.proofs.Digits.{Backwards}
 use Rattle.spelling.proofs.put_decimal.Given as goal
 
 abbrev pub invariant-loop-front : goal.invariant-loop-front

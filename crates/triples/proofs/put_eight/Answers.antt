@@ -1,5 +1,4 @@
-use Rattle.triples.proofs.NumberLaws.{Storing, storings}
-use Prim.Native.Nat.{◌-◌}
+use Rattle.triples.proofs.NumberLaws.{storings}
 use borrow.Author.Rules.{rules}
 use Rattle.triples.proofs.put_eight.Goals as goal
 

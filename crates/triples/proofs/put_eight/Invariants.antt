@@ -1,6 +1,5 @@
-use Rattle.triples.proofs.NumberLaws.{Storing, storings}
+use Rattle.triples.proofs.NumberLaws.{Storing}
 use Prim.Native.Nat.{◌-◌}
-use borrow.Author.Rules.{rules}
 use Rattle.triples.proofs.put_eight.Given as goal
 
 abbrev pub invariant-loop-i : goal.invariant-loop-i

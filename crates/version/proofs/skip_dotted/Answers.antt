@@ -1,7 +1,4 @@
 use Rattle.version.proofs.IdentifierLaws.{dotteds}
-use Rattle.lexer.proofs.Counting.{Counted}
-use Rattle.rules.specs.Version.{read_after_dot}
-use Rattle.version.specs.Views.{read_piece}
 use borrow.Author.Rules.{rules}
 use Rattle.version.proofs.skip_dotted.Goals as goal
 

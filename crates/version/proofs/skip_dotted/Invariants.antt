@@ -1,8 +1,6 @@
-use Rattle.version.proofs.IdentifierLaws.{dotteds}
 use Rattle.lexer.proofs.Counting.{Counted}
 use Rattle.rules.specs.Version.{read_after_dot}
 use Rattle.version.specs.Views.{read_piece}
-use borrow.Author.Rules.{rules}
 use Rattle.version.proofs.skip_dotted.Given as goal
 
 abbrev pub invariant-loop-left : goal.invariant-loop-left
