@@ -7,7 +7,11 @@ ghost use Rattle.rules.specs.Admits.{verdict_room};
 ghost use Rattle.range.specs.Views.{compat_of};
 ghost use Rattle.passes.specs.Views.{Accepts};
 
+use memchr::memchr;
 use range::{Compat, Mode};
+use std::env::Env;
+use std::io;
+use std::time::Clock;
 use streams::Input;
 use verdicts::{hold, put_refused_range, put_verdict};
 
@@ -21,7 +25,7 @@ struct Block {
 }
 
 // Writes the block, unless a line of any length has room in it.
-fn with_room(out: &[u8], filled: usize) -> Block
+fn with_room(rt: &(impl Print + Eprint + Clock), out: &[u8], filled: usize) -> Block
     requires verdict_room_in_bounds { verdict_room ≤ length out.now }
     requires filled_in_bounds { filled ≤ length out.now }
     ensures { result.filled + verdict_room ≤ length out.now }
@@ -32,18 +36,25 @@ fn with_room(out: &[u8], filled: usize) -> Block
             filled,
         };
     }
-    let failed = !streams::print(b"admits", &out[..filled]);
+    let failed = !streams::print(rt, b"admits", &out[..filled]);
     Block { failed, filled: 0 }
 }
 
 // Puts the line with its answer behind the block's bytes.
-fn answer(range: &[u8], compat: Compat, line: &[u8], out: &mut [u8], filled: usize) -> Block
+fn answer(
+    rt: &(impl Print + Eprint + Clock),
+    range: &[u8],
+    compat: Compat,
+    line: &[u8],
+    out: &mut [u8],
+    filled: usize,
+) -> Block
     requires accepts { Accepts (compat_of compat) range.now }
     requires verdict_room_in_bounds { verdict_room ≤ length out.old }
     requires filled_in_bounds { filled ≤ length out.old }
     ensures { result.filled ≤ length out.new }
 {
-    let b = with_room(out, filled);
+    let b = with_room(rt, out, filled);
     let at = b.filled;
     let len = put_verdict(range, compat, line, &mut out[at..]);
     Block {
@@ -62,17 +73,30 @@ struct Progress {
 }
 
 // Writes the block's bytes.
-fn flush(out: &[u8], filled: usize, held: usize) -> Progress
+fn flush(rt: &(impl Print + Eprint + Clock), out: &[u8], filled: usize, held: usize) -> Progress
     requires { filled ≤ length out.now }
     ensures { result.held ≡ held }
 {
-    let ended = !streams::print(b"admits", &out[..filled]);
+    let ended = !streams::print(rt, b"admits", &out[..filled]);
     Progress { ended, held }
+}
+
+// Where the line that begins at `at` ends: before a 0A, or at the end of the chunk.
+fn end_of_line(chunk: &[u8], at: usize) -> usize
+    requires { at ≤ length chunk.now }
+    ensures from_at { at ≤ result }
+    ensures within { result ≤ length chunk.now }
+{
+    match memchr(b'\n', &chunk[at..]) {
+        Some(n) => at + n,
+        None => chunk.len(),
+    }
 }
 
 // Answers the lines that end in the chunk. `line` holds the first bytes of the line that is not ended, `held` many before and as many as is
 // answered after; it is full where the line is over 65,535 bytes.
 fn answer_chunk(
+    rt: &(impl Print + Eprint + Clock),
     range: &[u8],
     compat: Compat,
     chunk: &[u8],
@@ -89,12 +113,12 @@ fn answer_chunk(
     let mut at = 0;
     let mut filled = 0;
     while at < chunk.len() {
-        let end = bytes::scan::find(chunk, at, chunk.len(), b'\n');
+        let end = end_of_line(chunk, at);
         kept = hold(line, kept, &chunk[at..end]);
         if end == chunk.len() {
-            return flush(out, filled, kept);
+            return flush(rt, out, filled, kept);
         }
-        let b = answer(range, compat, &line[..kept], out, filled);
+        let b = answer(rt, range, compat, &line[..kept], out, filled);
         if b.failed {
             return Progress {
                 ended: true,
@@ -105,18 +129,24 @@ fn answer_chunk(
         kept = 0;
         at = end + 1;
     }
-    flush(out, filled, kept)
+    flush(rt, out, filled, kept)
 }
 
 // Answers the last line, which needs no 0A.
-fn answer_last(range: &[u8], compat: Compat, line: &[u8], out: &mut [u8]) -> Progress
+fn answer_last(
+    rt: &(impl Print + Eprint + Clock),
+    range: &[u8],
+    compat: Compat,
+    line: &[u8],
+    out: &mut [u8],
+) -> Progress
     requires accepts { Accepts (compat_of compat) range.now }
     requires verdict_room_in_bounds { verdict_room ≤ length out.old }
     ensures { result.held ≡ 0 }
 {
     if line.len() > 0 {
         let len = put_verdict(range, compat, line, out);
-        streams::print(b"admits", &out[..len]);
+        streams::print(rt, b"admits", &out[..len]);
     }
     Progress {
         ended: true,
@@ -128,6 +158,7 @@ fn answer_last(range: &[u8], compat: Compat, line: &[u8], out: &mut [u8]) -> Pro
 
 // Answers what one read gave: no bytes are the end of the input.
 fn answer_read(
+    rt: &(impl io::Input + Print + Eprint + Clock),
     range: &[u8],
     compat: Compat,
     chunk: &[u8],
@@ -141,13 +172,14 @@ fn answer_read(
     ensures { result.held ≤ length line.new }
 {
     if chunk.len() == 0 {
-        return answer_last(range, compat, &line[..held], out);
+        return answer_last(rt, range, compat, &line[..held], out);
     }
-    answer_chunk(range, compat, chunk, line, held, out)
+    answer_chunk(rt, range, compat, chunk, line, held, out)
 }
 
 // Reads once, and answers the lines that ended. Where the read fails, the line that is not ended has no answer.
 fn answer_some(
+    rt: &(impl io::Input + Print + Eprint + Clock),
     range: &[u8],
     compat: Compat,
     line: &mut [u8],
@@ -159,12 +191,12 @@ fn answer_some(
     requires held_in_bounds { held ≤ length line.old }
     ensures { result.held ≤ length line.new }
 {
-    let mut chunk = io::large_buffer();
-    let r = streams::read(&mut chunk);
+    let mut chunk = [0u8; 65536];
+    let r = streams::read(rt, &mut chunk);
     match r {
-        Input::Bytes(n) => answer_read(range, compat, &chunk[..n], line, held, out),
-        Input::Failed => {
-            streams::cannot_read(b"admits");
+        Input::Bytes(n) => answer_read(rt, range, compat, &chunk[..n], line, held, out),
+        Input::Failed(error) => {
+            streams::cannot_read(rt, b"admits", error);
             Progress {
                 ended: true,
                 held: 0,
@@ -174,14 +206,20 @@ fn answer_some(
 }
 
 // The turns are counted down, from a number that no run uses up.
-fn answer_all(range: &[u8], compat: Compat, line: &mut [u8], out: &mut [u8])
+fn answer_all(
+    rt: &(impl io::Input + Print + Eprint + Clock),
+    range: &[u8],
+    compat: Compat,
+    line: &mut [u8],
+    out: &mut [u8],
+)
     requires accepts { Accepts (compat_of compat) range.now }
     requires verdict_room_in_bounds { verdict_room ≤ length out.old }
 {
     let mut held = 0;
     let mut turns = u64::MAX;
     while turns > 0 {
-        let p = answer_some(range, compat, line, held, out);
+        let p = answer_some(rt, range, compat, line, held, out);
         held = p.held;
         turns -= 1;
         if p.ended {
@@ -192,35 +230,35 @@ fn answer_all(range: &[u8], compat: Compat, line: &mut [u8], out: &mut [u8])
 
 // ---- the arguments
 
-fn answer_lines(compat: Compat, range: &[u8])
+fn answer_lines(rt: &(impl io::Input + Print + Eprint + Clock), compat: Compat, range: &[u8])
     requires { Accepts (compat_of compat) range.now }
 {
-    let mut line = io::large_buffer();
+    let mut line = [0u8; 65536];
     let mut out = [0u8; 131072];
-    answer_all(range, compat, &mut line, &mut out);
+    answer_all(rt, range, compat, &mut line, &mut out);
 }
 
 // The range's refusals are decided once, and not for each version.
-fn run(compat: Compat, range: &[u8]) {
+fn run(rt: &(impl io::Input + Print + Eprint + Clock), compat: Compat, range: &[u8]) {
     let mut out = [0u8; verdicts::ROOM];
     let len = put_refused_range(range, compat, &mut out);
     if len == 0 {
-        answer_lines(compat, range);
+        answer_lines(rt, compat, range);
         return;
     }
-    streams::print(b"admits", &out[..len]);
+    streams::print(rt, b"admits", &out[..len]);
 }
 
-fn run_mode(compat: Compat) {
-    let mut range = io::large_buffer();
-    let n = arguments::range(&mut range);
-    run(compat, &range[..n]);
+fn run_mode(rt: &(impl Env + io::Input + Print + Eprint + Clock), compat: Compat) {
+    let mut range = [0u8; 65536];
+    let n = arguments::range(rt, &mut range);
+    run(rt, compat, &range[..n]);
 }
 
-fn main() {
-    let mode = arguments::mode();
+fn main(rt: HostRuntime) {
+    let mode = arguments::mode(&rt);
     match mode {
-        Mode::Compat(compat) => run_mode(compat),
-        Mode::Nothing => streams::put_usage(b"admits", b"admits cargo|npm RANGE < VERSIONS\n"),
+        Mode::Compat(compat) => run_mode(&rt, compat),
+        Mode::Nothing => streams::put_usage(&rt, b"admits", b"admits cargo|npm RANGE < VERSIONS\n"),
     }
 }

@@ -9,6 +9,7 @@ use normal_text::{NormalText, normal_text};
 use range::Compat;
 use rangeset::{Reading, read};
 use rows::COMPARATOR_WORDS;
+use std::io;
 
 // How many comparator words are enough for every text, which has at most a row for each of its bytes and one.
 pub const WORDS: usize = COMPARATOR_WORDS * 65536;
@@ -16,14 +17,13 @@ pub const WORDS: usize = COMPARATOR_WORDS * 65536;
 // How many words are shown of those that are too many to print: two comparators' rows.
 const LAST_WORDS: usize = COMPARATOR_WORDS * 2;
 
-pub fn put(text: &[u8]) {
-    io::write_all(1, text);
+pub fn put(rt: &impl Print, text: &[u8]) -> io::Result<()> {
+    rt.write_all(text)
 }
 
 // Behind a blank.
-pub fn put_number(n: u64) {
-    put(b" ");
-    io::print_decimal(1, n);
+pub fn put_number(rt: &impl Print, n: u64) -> io::Result<()> {
+    print!(rt; " {n}")
 }
 
 // So many, or as many as there are.
@@ -39,92 +39,92 @@ pub fn at_most(n: u64, room: usize) -> usize
 // ---- answers
 
 // 01's number and the three counts.
-pub fn put_counts(r: Reading) {
+pub fn put_counts(rt: &impl Print, r: Reading) -> io::Result<()> {
     match r {
         Reading::Accepted(counts) => {
-            put_number(0);
-            put_number(counts.ranges as u64);
-            put_number(counts.comparators as u64);
-            put_number(counts.identifiers as u64);
+            put_number(rt, 0)?;
+            put_number(rt, counts.ranges as u64)?;
+            put_number(rt, counts.comparators as u64)?;
+            put_number(rt, counts.identifiers as u64)?;
         }
-        Reading::Refused(refusal) => put_number(refusal.number()),
+        Reading::Refused(refusal) => put_number(rt, refusal.number())?,
     }
-    put(b"\n");
+    put(rt, b"\n")
 }
 
 // The same; a refusal of the normal text, and not of the text, says so.
-pub fn put_reread(r: Reread) {
+pub fn put_reread(rt: &impl Print, r: Reread) -> io::Result<()> {
     match r {
-        Reread::Accepted(counts) => put_counts(Reading::Accepted(counts)),
-        Reread::TextRefused(refusal) => put_counts(Reading::Refused(refusal)),
+        Reread::Accepted(counts) => put_counts(rt, Reading::Accepted(counts)),
+        Reread::TextRefused(refusal) => put_counts(rt, Reading::Refused(refusal)),
         Reread::NormalRefused(refusal) => {
-            put(b" normal text");
-            put_counts(Reading::Refused(refusal));
+            put(rt, b" normal text")?;
+            put_counts(rt, Reading::Refused(refusal))
         }
     }
 }
 
 // 01's number and the length.
-pub fn put_length(r: NormalText) {
+pub fn put_length(rt: &impl Print, r: NormalText) -> io::Result<()> {
     match r {
         NormalText::Written(len) => {
-            put_number(0);
-            put_number(len as u64);
+            put_number(rt, 0)?;
+            put_number(rt, len as u64)?;
         }
-        NormalText::Refused(refusal) => put_number(refusal.number()),
+        NormalText::Refused(refusal) => put_number(rt, refusal.number())?,
     }
-    put(b" ");
+    put(rt, b" ")
 }
 
-pub fn put_admission(r: Admission) {
+pub fn put_admission(rt: &impl Print, r: Admission) -> io::Result<()> {
     match r {
-        Admission::Yes => put(b" yes"),
-        Admission::No => put(b" no"),
-        Admission::Refused(refusal) => put_number(refusal.number()),
+        Admission::Yes => put(rt, b" yes")?,
+        Admission::No => put(rt, b" no")?,
+        Admission::Refused(refusal) => put_number(rt, refusal.number())?,
     }
-    put(b"\n");
+    put(rt, b"\n")
 }
 
-pub fn put_equality(r: Equality) {
+pub fn put_equality(rt: &impl Print, r: Equality) -> io::Result<()> {
     match r {
-        Equality::Equal => put(b" equal"),
-        Equality::Different => put(b" different"),
-        Equality::Refused(refusal) => put_number(refusal.number()),
+        Equality::Equal => put(rt, b" equal")?,
+        Equality::Different => put(rt, b" different")?,
+        Equality::Refused(refusal) => put_number(rt, refusal.number())?,
     }
-    put(b"\n");
+    put(rt, b"\n")
 }
 
 // ---- lent memory
 
-pub fn put_line(out: &[u8]) {
-    put(out);
-    put(b"\n");
+pub fn put_line(rt: &impl Print, out: &[u8]) -> io::Result<()> {
+    put(rt, out)?;
+    put(rt, b"\n")
 }
 
-pub fn put_words(words: &[u64]) {
-    let mut i = 0;
-    while i < words.len() {
-        put_number(words[i]);
-        i += 1;
+pub fn put_words(rt: &impl Print, words: &[u64]) -> io::Result<()> {
+    for word in words {
+        put_number(rt, *word)?;
     }
-    put(b"\n");
+    put(rt, b"\n")
 }
 
 // ---- its end, where it is too long to print
 
 // Fifteen bytes.
-fn put_last_bytes(out: &[u8]) {
+fn put_last_bytes(rt: &impl Print, out: &[u8]) -> io::Result<()> {
     if out.len() >= 15 {
         let at = out.len() - 15;
-        put_line(&out[at..]);
+        put_line(rt, &out[at..])?;
     }
+    Ok(())
 }
 
-fn put_last_words(words: &[u64]) {
+fn put_last_words(rt: &impl Print, words: &[u64]) -> io::Result<()> {
     if words.len() >= LAST_WORDS {
         let at = words.len() - LAST_WORDS;
-        put_words(&words[at..]);
+        put_words(rt, &words[at..])?;
     }
+    Ok(())
 }
 
 // ---- calls of which the end is printed
@@ -136,30 +136,46 @@ pub fn other_mode(compat: Compat) -> Compat {
     }
 }
 
-pub fn show_end(text: &[u8], compat: Compat, lent: u64, all: &mut [u8]) {
+pub fn show_end(
+    rt: &impl Print,
+    text: &[u8],
+    compat: Compat,
+    lent: u64,
+    all: &mut [u8],
+) -> io::Result<()> {
     let n = at_most(lent, all.len());
     let out = &mut all[..n];
-    put_length(normal_text(text, compat, out));
-    put_last_bytes(out);
+    put_length(rt, normal_text(text, compat, out))?;
+    put_last_bytes(rt, out)
 }
 
-pub fn show_rows_end(text: &[u8], compat: Compat, words: &mut [u64], ids: &mut [u64]) {
-    put_counts(read(text, compat, words, ids));
-    put_last_words(words);
-    put_last_words(ids);
+pub fn show_rows_end(
+    rt: &impl Print,
+    text: &[u8],
+    compat: Compat,
+    words: &mut [u64],
+    ids: &mut [u64],
+) -> io::Result<()> {
+    put_counts(rt, read(text, compat, words, ids))?;
+    put_last_words(rt, words)?;
+    put_last_words(rt, ids)
 }
 
 pub fn show_read_again_end(
+    rt: &impl Print,
     text: &[u8],
     compat: Compat,
     lent: u64,
     all: &mut [u8],
     words: &mut [u64],
-) {
+) -> io::Result<()> {
     let other = other_mode(compat);
     let n = at_most(lent, all.len());
     let out = &mut all[..n];
-    put_reread(read_normal_text(text, compat, other, out, words, &mut []));
-    put_last_bytes(out);
-    put_last_words(words);
+    put_reread(
+        rt,
+        read_normal_text(text, compat, other, out, words, &mut []),
+    )?;
+    put_last_bytes(rt, out)?;
+    put_last_words(rt, words)
 }

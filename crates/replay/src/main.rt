@@ -23,7 +23,7 @@
 // own, stand all lent bytes, which held `_` before, and all lent words, which held 7.
 #![tactic(auto)]
 
-ghost use Rattle.std.specs.Prelude.{◌≤◌, length};
+ghost use Rattle.std.specs.Prelude.{◌≤◌, IfOk, length};
 
 use admission::admit;
 use equality::{equal_readings, read_normal_text};
@@ -37,56 +37,87 @@ use printing::{
 use range::Compat;
 use rangeset::read;
 use spelling::put_bytes;
+use std::io;
+use std::time::Clock;
+use streams::Input;
 
 // ---- the calls
 
-fn show_normal_text(text: &[u8], compat: Compat, out: &mut [u8]) {
-    put_length(normal_text(text, compat, out));
-    put_line(out);
+fn show_normal_text(
+    rt: &impl Print,
+    text: &[u8],
+    compat: Compat,
+    out: &mut [u8],
+) -> io::Result<()> {
+    put_length(rt, normal_text(text, compat, out))?;
+    put_line(rt, out)
 }
 
-fn show_reading(text: &[u8], compat: Compat, words: &mut [u64], ids: &mut [u64]) {
-    put_counts(read(text, compat, words, ids));
-    put_words(words);
-    put_words(ids);
+fn show_reading(
+    rt: &impl Print,
+    text: &[u8],
+    compat: Compat,
+    words: &mut [u64],
+    ids: &mut [u64],
+) -> io::Result<()> {
+    put_counts(rt, read(text, compat, words, ids))?;
+    put_words(rt, words)?;
+    put_words(rt, ids)
 }
 
 fn show_read_again(
+    rt: &impl Print,
     text: &[u8],
     compat: Compat,
     out: &mut [u8],
     words: &mut [u64],
     ids: &mut [u64],
-) {
+) -> io::Result<()> {
     let other = other_mode(compat);
-    put_reread(read_normal_text(text, compat, other, out, words, ids));
-    put_line(out);
-    put_words(words);
-    put_words(ids);
+    put_reread(rt, read_normal_text(text, compat, other, out, words, ids))?;
+    put_line(rt, out)?;
+    put_words(rt, words)?;
+    put_words(rt, ids)
 }
 
-fn show_equality(s: &[u8], compat: Compat, t: &[u8], a: &mut [u8], b: &mut [u8]) {
-    put_equality(equal_readings(s, compat, t, Compat::Npm, a, b));
-    put_line(a);
-    put_line(b);
+fn show_equality(
+    rt: &impl Print,
+    s: &[u8],
+    compat: Compat,
+    t: &[u8],
+    a: &mut [u8],
+    b: &mut [u8],
+) -> io::Result<()> {
+    put_equality(rt, equal_readings(s, compat, t, Compat::Npm, a, b))?;
+    put_line(rt, a)?;
+    put_line(rt, b)
 }
 
-fn show_compared(s: &[u8], compat: Compat, t: &[u8], a: &mut [u8], lent: u64) {
+fn show_compared(
+    rt: &impl Print,
+    s: &[u8],
+    compat: Compat,
+    t: &[u8],
+    a: &mut [u8],
+    lent: u64,
+) -> io::Result<()> {
     let mut b = [b'_'; 64];
     let n = at_most(lent, 64);
-    show_equality(s, compat, t, a, &mut b[..n]);
+    show_equality(rt, s, compat, t, a, &mut b[..n])
 }
 
-fn show_plainform(input: &[u8], out: &mut [u8]) {
+fn show_plainform(rt: &impl Print, input: &[u8], out: &mut [u8]) -> io::Result<()> {
     if out.len() >= plain::ROOM {
         let len = plainform(input, out);
-        put(&out[..len]);
+        put(rt, &out[..len])?;
     }
+    Ok(())
 }
 
 // ---- the calls on long texts, and plainform
 
 fn show_all(
+    rt: &impl Print,
     numbers: [u64; 9],
     compat: Compat,
     lent: u64,
@@ -94,19 +125,20 @@ fn show_all(
     out: &mut [u8; 524288],
     words: &mut [u64; printing::WORDS],
     ids: &mut [u64; 98304],
-) {
+) -> io::Result<()> {
     let call = numbers[0];
     match call {
-        6 => show_plainform(text, out),
-        7 => show_end(text, compat, lent, out),
-        8 => show_rows_end(text, compat, words, ids),
-        _ => show_read_again_end(text, compat, lent, out, words),
+        6 => show_plainform(rt, text, out),
+        7 => show_end(rt, text, compat, lent, out),
+        8 => show_rows_end(rt, text, compat, words, ids),
+        _ => show_read_again_end(rt, text, compat, lent, out, words),
     }
 }
 
 // ---- a row
 
 fn show(
+    rt: &impl Print,
     numbers: [u64; 9],
     compat: Compat,
     text: &[u8],
@@ -114,20 +146,27 @@ fn show(
     out: &mut [u8],
     words: &mut [u64],
     ids: &mut [u64],
-) {
+) -> io::Result<()> {
     let call = numbers[0];
     match call {
-        0 => put(b""),
-        1 => show_normal_text(text, compat, out),
-        2 => show_reading(text, compat, words, ids),
-        3 => put_admission(admit(text, compat, other)),
-        4 => show_read_again(text, compat, out, words, ids),
-        _ => show_compared(text, compat, other, out, numbers[3]),
+        0 => put(rt, b""),
+        1 => show_normal_text(rt, text, compat, out),
+        2 => show_reading(rt, text, compat, words, ids),
+        3 => put_admission(rt, admit(text, compat, other)),
+        4 => show_read_again(rt, text, compat, out, words, ids),
+        _ => show_compared(rt, text, compat, other, out, numbers[3]),
     }
 }
 
 // Under one mode, with so many bytes lent.
-fn show_lent(numbers: [u64; 9], compat: Compat, lent: u64, text: &[u8], other: &[u8]) {
+fn show_lent(
+    rt: &impl Print,
+    numbers: [u64; 9],
+    compat: Compat,
+    lent: u64,
+    text: &[u8],
+    other: &[u8],
+) -> io::Result<()> {
     let mut out = [b'_'; 1024];
     let mut words = [7u64; 64];
     let mut ids = [7u64; 64];
@@ -135,6 +174,7 @@ fn show_lent(numbers: [u64; 9], compat: Compat, lent: u64, text: &[u8], other: &
     let n = at_most(numbers[3], 64);
     let k = at_most(numbers[4], 64);
     show(
+        rt,
         numbers,
         compat,
         text,
@@ -142,12 +182,20 @@ fn show_lent(numbers: [u64; 9], compat: Compat, lent: u64, text: &[u8], other: &
         &mut out[..m],
         &mut words[..n],
         &mut ids[..k],
-    );
+    )
 }
 
-fn show_under(numbers: [u64; 9], compat: Compat, lent: u64, text: &[u8], other: &[u8]) {
+fn show_under(
+    rt: &impl Print,
+    numbers: [u64; 9],
+    compat: Compat,
+    lent: u64,
+    text: &[u8],
+    other: &[u8],
+) -> io::Result<()> {
     if numbers[0] > 5 {
         return show_all(
+            rt,
             numbers,
             compat,
             lent,
@@ -157,15 +205,16 @@ fn show_under(numbers: [u64; 9], compat: Compat, lent: u64, text: &[u8], other: 
             &mut [7u64; 98304],
         );
     }
-    show_lent(numbers, compat, lent, text, other);
+    show_lent(rt, numbers, compat, lent, text, other)
 }
 
 // A row's call, under each mode where it takes one.
-fn show_row(numbers: [u64; 9], text: &[u8], other: &[u8]) {
-    show_under(numbers, Compat::Cargo, numbers[1], text, other);
+fn show_row(rt: &impl Print, numbers: [u64; 9], text: &[u8], other: &[u8]) -> io::Result<()> {
+    show_under(rt, numbers, Compat::Cargo, numbers[1], text, other)?;
     if numbers[0] != 6 {
-        show_under(numbers, Compat::Npm, numbers[2], text, other);
+        show_under(rt, numbers, Compat::Npm, numbers[2], text, other)?;
     }
+    Ok(())
 }
 
 // ---- a text longer than what is given of it
@@ -191,18 +240,18 @@ fn lengthen(given: &[u8], text: &mut [u8]) {
 }
 
 // A row's call, on as much of the two texts as the row says.
-fn show_sized(numbers: [u64; 9], text: &[u8], other: &[u8]) {
+fn show_sized(rt: &impl Print, numbers: [u64; 9], text: &[u8], other: &[u8]) -> io::Result<()> {
     let n = at_most(numbers[5], text.len());
     let k = at_most(numbers[7], other.len());
-    show_row(numbers, &text[..n], &other[..k]);
+    show_row(rt, numbers, &text[..n], &other[..k])
 }
 
-fn show_long(numbers: [u64; 9], text: &[u8], other: &[u8]) {
+fn show_long(rt: &impl Print, numbers: [u64; 9], text: &[u8], other: &[u8]) -> io::Result<()> {
     let mut whole = [0u8; 131072];
-    let mut second = io::large_buffer();
+    let mut second = [0u8; 65536];
     lengthen(text, &mut whole);
     lengthen(other, &mut second);
-    show_sized(numbers, &whole, &second);
+    show_sized(rt, numbers, &whole, &second)
 }
 
 // ---- the file
@@ -233,58 +282,63 @@ fn read_numbers(s: &[u8], numbers: &mut [u64; 9]) -> usize
 }
 
 // Shows a row of which the texts are given.
-fn show_given(numbers: [u64; 9], text: &[u8], other: &[u8]) {
-    put_line(text);
-    put_line(other);
+fn show_given(rt: &impl Print, numbers: [u64; 9], text: &[u8], other: &[u8]) -> io::Result<()> {
+    put_line(rt, text)?;
+    put_line(rt, other)?;
     if (numbers[5] > numbers[6]) | (numbers[7] > numbers[8]) {
-        return show_long(numbers, text, other);
+        return show_long(rt, numbers, text, other);
     }
-    show_row(numbers, text, other);
+    show_row(rt, numbers, text, other)
 }
 
 // Shows a row whose texts s begins with; answers the place behind them.
-fn show_texts(numbers: [u64; 9], s: &[u8]) -> usize
-    ensures { result ≤ length s.now }
+fn show_texts(rt: &impl Print, numbers: [u64; 9], s: &[u8]) -> io::Result<usize>
+    ensures { IfOk result (λ n. n ≤ length s.now) }
 {
     let n = at_most(numbers[6], s.len());
     let from = behind(s, n);
     let rest = &s[from..];
     let k = at_most(numbers[8], rest.len());
-    show_given(numbers, &s[..n], &rest[..k]);
-    behind(s, from + k)
+    show_given(rt, numbers, &s[..n], &rest[..k])?;
+    Ok(behind(s, from + k))
 }
 
 // Shows the first row; answers the place behind it.
-fn show_first(s: &[u8]) -> usize
-    ensures { result ≤ length s.now }
+fn show_first(rt: &impl Print, s: &[u8]) -> io::Result<usize>
+    ensures { IfOk result (λ n. n ≤ length s.now) }
 {
     let mut numbers = [0u64; 9];
     let at = read_numbers(s, &mut numbers);
-    put(&s[..at]);
-    at + show_texts(numbers, &s[at..])
+    put(rt, &s[..at])?;
+    let len = show_texts(rt, numbers, &s[at..])?;
+    Ok(at + len)
 }
 
-fn replay(rows: &[u8]) {
+fn replay(rt: &impl Print, rows: &[u8]) -> io::Result<()> {
     let mut at = 0;
     while at < rows.len() {
-        let len = show_first(&rows[at..]);
+        let len = show_first(rt, &rows[at..])?;
         if len == 0 {
-            return;
+            break;
         }
         at += len;
     }
+    Ok(())
 }
 
 // The file has fewer bytes than are read: of a longer one the last row would be cut off.
-fn run(rows: &mut [u8]) {
-    let n = io::read_full(0, rows);
-    replay(&rows[..n]);
+fn run(rt: &(impl io::Input + Print + Clock), rows: &mut [u8]) -> io::Result<()> {
+    let r = streams::read_all(rt, rows);
+    match r {
+        Input::Bytes(n) => replay(rt, &rows[..n]),
+        Input::Failed(error) => Err(error),
+    }
 }
 
-fn run_all(rows: &mut [u8; 131072]) {
-    run(rows);
+fn run_all(rt: &(impl io::Input + Print + Clock), rows: &mut [u8; 131072]) -> io::Result<()> {
+    run(rt, rows)
 }
 
-fn main() {
-    run_all(&mut [0u8; 131072]);
+fn main(rt: HostRuntime) -> io::Result<()> {
+    run_all(&rt, &mut [0u8; 131072])
 }

@@ -18,7 +18,7 @@
 //     7  the lookup of the version that is the text, as first fit
 #![tactic(auto)]
 
-ghost use Rattle.std.specs.Prelude.{◌≤◌, ◌<◌, length};
+ghost use Rattle.std.specs.Prelude.{◌≤◌, ◌<◌, IfOk, length};
 
 use lexer::read_number;
 use maluwesi_shelf::{
@@ -26,16 +26,18 @@ use maluwesi_shelf::{
     maluwesi_shelf_lookup, maluwesi_shelf_remove,
 };
 use memory::wide;
+use std::io;
+use std::time::Clock;
+use streams::Input;
 
 // ---- what is printed
 
-fn put(text: &[u8]) {
-    io::write_all(1, text);
+fn put(rt: &impl Print, text: &[u8]) -> io::Result<()> {
+    rt.write_all(text)
 }
 
-fn put_number(n: u64) {
-    put(b" ");
-    io::print_decimal(1, n);
+fn put_number(rt: &impl Print, n: u64) -> io::Result<()> {
+    print!(rt; " {n}")
 }
 
 // The sum of two, by the modulus of Adler-32.
@@ -45,7 +47,7 @@ fn plus(a: u64, b: u64) -> u64
     (a % 65521 + b % 65521) % 65521
 }
 
-fn put_checksum(s: &[u8]) {
+fn put_checksum(rt: &impl Print, s: &[u8]) -> io::Result<()> {
     let mut a = 1;
     let mut b = 0;
     let mut i = 0;
@@ -54,35 +56,41 @@ fn put_checksum(s: &[u8]) {
         b = plus(b, a);
         i += 1;
     }
-    put_number(b);
-    put_number(a);
-    put(b"\n");
+    put_number(rt, b)?;
+    put_number(rt, a)?;
+    put(rt, b"\n")
 }
 
 // ---- the calls
 
-fn show_find(shelf: &[u8], code: u16) {
+fn show_find(rt: &impl Print, shelf: &[u8], code: u16) -> io::Result<()> {
     let mut place = 1;
     let mut len = 1;
-    put_number(maluwesi_shelf_find(shelf, code, &mut place, &mut len));
-    put_number(place as u64);
-    put_number(len as u64);
+    put_number(rt, maluwesi_shelf_find(shelf, code, &mut place, &mut len))?;
+    put_number(rt, place as u64)?;
+    put_number(rt, len as u64)
 }
 
-fn show_fit(shelf: &[u8], version: &[u8]) {
+fn show_fit(rt: &impl Print, shelf: &[u8], version: &[u8]) -> io::Result<()> {
     let mut found = 1;
     let mut code = 1;
-    put_number(maluwesi_shelf_first_fit(shelf, version, &mut found, &mut code));
-    put_number(found as u64);
-    put_number(code as u64);
+    put_number(
+        rt,
+        maluwesi_shelf_first_fit(shelf, version, &mut found, &mut code),
+    )?;
+    put_number(rt, found as u64)?;
+    put_number(rt, code as u64)
 }
 
-fn show_lookup(shelf: &[u8], version: &[u8]) {
+fn show_lookup(rt: &impl Print, shelf: &[u8], version: &[u8]) -> io::Result<()> {
     let mut found = 1;
     let mut code = 1;
-    put_number(maluwesi_shelf_lookup(shelf, version, &mut found, &mut code));
-    put_number(found as u64);
-    put_number(code as u64);
+    put_number(
+        rt,
+        maluwesi_shelf_lookup(shelf, version, &mut found, &mut code),
+    )?;
+    put_number(rt, found as u64)?;
+    put_number(rt, code as u64)
 }
 
 fn set_byte(shelf: &mut [u8], at: u16, byte: u8) {
@@ -92,16 +100,26 @@ fn set_byte(shelf: &mut [u8], at: u16, byte: u8) {
     }
 }
 
-fn show(call: u64, shelf: &mut [u8], code: u16, mode: u8, text: &[u8]) {
+fn show(
+    rt: &impl Print,
+    call: u64,
+    shelf: &mut [u8],
+    code: u16,
+    mode: u8,
+    text: &[u8],
+) -> io::Result<()> {
     match call {
-        0 => put(b""),
-        1 => put_number(maluwesi_shelf_clear(shelf)),
-        2 => put_number(maluwesi_shelf_add(shelf, code, mode, text)),
-        3 => put_number(maluwesi_shelf_remove(shelf, code)),
-        4 => show_find(shelf, code),
-        5 => show_fit(shelf, text),
-        7 => show_lookup(shelf, text),
-        _ => set_byte(shelf, code, mode),
+        0 => put(rt, b""),
+        1 => put_number(rt, maluwesi_shelf_clear(shelf)),
+        2 => put_number(rt, maluwesi_shelf_add(shelf, code, mode, text)),
+        3 => put_number(rt, maluwesi_shelf_remove(shelf, code)),
+        4 => show_find(rt, shelf, code),
+        5 => show_fit(rt, shelf, text),
+        7 => show_lookup(rt, shelf, text),
+        _ => {
+            set_byte(shelf, code, mode);
+            Ok(())
+        }
     }
 }
 
@@ -115,13 +133,13 @@ fn at_most(n: u64, room: usize) -> usize
     n as usize
 }
 
-fn show_row(numbers: [u64; 5], text: &[u8], memory: &mut [u8]) {
+fn show_row(rt: &impl Print, numbers: [u64; 5], text: &[u8], memory: &mut [u8]) -> io::Result<()> {
     let n = at_most(numbers[1], memory.len());
     let code = (numbers[2] % 65536) as u16;
     let mode = (numbers[3] % 256) as u8;
     let shelf = &mut memory[..n];
-    show(numbers[0], shelf, code, mode, text);
-    put_checksum(shelf);
+    show(rt, numbers[0], shelf, code, mode, text)?;
+    put_checksum(rt, shelf)
 }
 
 // ---- the file
@@ -152,41 +170,53 @@ fn read_numbers(s: &[u8], numbers: &mut [u64; 5]) -> usize
 }
 
 // Shows the first row; answers the place behind it.
-fn show_first(s: &[u8], memory: &mut [u8]) -> usize
-    ensures { result ≤ length s.now }
+fn show_first(rt: &impl Print, s: &[u8], memory: &mut [u8]) -> io::Result<usize>
+    ensures { IfOk result (λ n. n ≤ length s.now) }
 {
     let mut numbers = [0u64; 5];
     let at = read_numbers(s, &mut numbers);
     let rest = &s[at..];
     let n = at_most(numbers[4], rest.len());
-    put(&s[..at]);
-    put(&rest[..n]);
-    put(b"\n");
-    show_row(numbers, &rest[..n], memory);
-    behind(s, at + n)
+    put(rt, &s[..at])?;
+    put(rt, &rest[..n])?;
+    put(rt, b"\n")?;
+    show_row(rt, numbers, &rest[..n], memory)?;
+    Ok(behind(s, at + n))
 }
 
-fn replay(rows: &[u8], memory: &mut [u8]) {
+fn replay(rt: &impl Print, rows: &[u8], memory: &mut [u8]) -> io::Result<()> {
     let mut at = 0;
     while at < rows.len() {
-        let len = show_first(&rows[at..], memory);
+        let len = show_first(rt, &rows[at..], memory)?;
         if len == 0 {
-            return;
+            break;
         }
         at += len;
     }
+    Ok(())
 }
 
 // The file has fewer bytes than are read: of a longer one the last row would be cut off.
-fn run(rows: &mut [u8], memory: &mut [u8]) {
-    let n = io::read_full(0, rows);
-    replay(&rows[..n], memory);
+fn run(
+    rt: &(impl io::Input + Print + Clock),
+    rows: &mut [u8],
+    memory: &mut [u8],
+) -> io::Result<()> {
+    let r = streams::read_all(rt, rows);
+    match r {
+        Input::Bytes(n) => replay(rt, &rows[..n], memory),
+        Input::Failed(error) => Err(error),
+    }
 }
 
-fn run_all(rows: &mut [u8; 16384], memory: &mut [u8; 37891]) {
-    run(rows, memory);
+fn run_all(
+    rt: &(impl io::Input + Print + Clock),
+    rows: &mut [u8; 16384],
+    memory: &mut [u8; 37891],
+) -> io::Result<()> {
+    run(rt, rows, memory)
 }
 
-fn main() {
-    run_all(&mut [0u8; 16384], &mut [0u8; 37891]);
+fn main(rt: HostRuntime) -> io::Result<()> {
+    run_all(&rt, &mut [0u8; 16384], &mut [0u8; 37891])
 }

@@ -3,71 +3,77 @@
 // can say which bytes are read or written.
 #![tactic(auto)]
 
-ghost use Rattle.std.specs.Prelude.{◌≡◌, ◌&&◌, ◌≤◌, eqb, length};
+ghost use Rattle.std.specs.Prelude.{◌≡◌, ◌&&◌, ◌≤◌, IfOk, eqb, length};
 ghost use Rattle.lexer.specs.Views.{starts_with};
-ghost use Rattle.io.specs.Counts.{IsPrefixLen};
-ghost use Rattle.streams.specs.Views.{bytes_of};
+ghost use Rattle.streams.specs.Views.{IsPrefixLen, bytes_of};
 
 use lexer::starts_with;
+use std::env::{Env, FillError};
+use std::io::{Cursor, ErrorKind, Read, Write};
+use std::time::{Clock, Duration};
+use std::{fmt, io, str, thread};
 
 // ---- calls that are tried again
 
-// Whether the call that failed is to be tried again. Where the descriptor is not ready, others run first: there is no call that waits for it.
-fn again() -> bool {
-    let error = os::errno();
-    if error == libc::EAGAIN {
-        libc::sched_yield();
-        return true;
+// Whether the call that failed is to be tried again. Where the descriptor is not ready, that is after a millisecond: there is no call that waits
+// for it.
+fn again(rt: &impl Clock, error: io::Error) -> bool {
+    match error.kind() {
+        ErrorKind::WouldBlock => {
+            thread::sleep(rt, Duration::from_millis(1));
+            true
+        }
+        ErrorKind::Interrupted => true,
+        _ => false,
     }
-    error == libc::EINTR
 }
 
 // ---- standard input
 
-// How many bytes were read, or that a read failed; errno says why.
+// How many bytes were read, or why a read failed.
 #[derive(Clone, Copy)]
 pub enum Input {
     Bytes(usize),
-    Failed,
+    Failed(io::Error),
 }
 
-// Reads some bytes to the start of buf, or none at the end of the input. The tries are counted down, from a number that no run uses up.
-pub fn read(buf: &mut [u8]) -> Input
+// Reads some bytes to the start of buf, or none at the end of the input. The tries are counted, up to a number that no run uses up.
+pub fn read(rt: &(impl io::Input + Clock), buf: &mut [u8]) -> Input
     ensures prefix_len { IsPrefixLen (bytes_of result) buf.new }
     ensures within { bytes_of result ≤ length buf.old }
 {
-    let mut tries = u64::MAX;
-    while tries > 0 {
-        let got = libc::read(libc::STDIN_FILENO, buf);
-        if got >= 0 {
-            return Input::Bytes(io::count(got, buf));
+    for _ in 0..u64::MAX {
+        let got = rt.reader().read(buf);
+        match got {
+            Ok(n) => return Input::Bytes(n),
+            Err(error) => {
+                if !again(rt, error) {
+                    return Input::Failed(error);
+                }
+            }
         }
-        if !again() {
-            return Input::Failed;
-        }
-        tries -= 1;
     }
-    Input::Failed
+    Input::Failed(io::Error::from(ErrorKind::Interrupted))
 }
 
 // Reads some bytes to the last `left` of buf, from the first of them on.
-fn read_to_last(buf: &mut [u8], left: usize) -> Input
+fn read_to_last(rt: &(impl io::Input + Clock), buf: &mut [u8], left: usize) -> Input
     requires { left ≤ length buf.old }
     ensures { bytes_of result ≤ left }
 {
     let at = buf.len() - left;
-    read(&mut buf[at..])
+    read(rt, &mut buf[at..])
 }
 
 // Reads to the start of buf until the input ends or buf is full.
-pub fn read_all(buf: &mut [u8]) -> Input
+pub fn read_all(rt: &(impl io::Input + Clock), buf: &mut [u8]) -> Input
     ensures { IsPrefixLen (bytes_of result) buf.new }
 {
     let mut left = buf.len();
     while left > 0 {
-        let r = read_to_last(buf, left);
+        let r = read_to_last(rt, buf, left);
         let Input::Bytes(n) = r else {
-            return Input::Failed;
+            return r;
         };
         if n == 0 {
             return Input::Bytes(buf.len() - left);
@@ -79,56 +85,89 @@ pub fn read_all(buf: &mut [u8]) -> Input
 
 // ---- standard output
 
-// Writes some bytes from the start of text, and answers how many: none where a write failed.
-fn write(text: &[u8]) -> usize
-    ensures { IsPrefixLen result text.now }
+// Writes some bytes from the start of text, and answers how many; or why a write failed.
+fn write(rt: &(impl Print + Clock), text: &[u8]) -> io::Result<usize>
+    ensures { IfOk result (λ n. IsPrefixLen n text.now) }
 {
-    let mut tries = u64::MAX;
-    while tries > 0 {
-        let put = libc::write(libc::STDOUT_FILENO, text);
-        if put >= 0 {
-            return io::count(put, text);
+    for _ in 0..u64::MAX {
+        let put = rt.write_some(text);
+        match put {
+            Ok(n) => return Ok(n),
+            Err(error) => {
+                if !again(rt, error) {
+                    return Err(error);
+                }
+            }
         }
-        if !again() {
-            return 0;
-        }
-        tries -= 1;
     }
-    0
+    Err(io::Error::from(ErrorKind::Interrupted))
 }
 
-// Whether all of text could be written; errno says why not.
-fn write_all(text: &[u8]) -> bool {
+// Writes all of text.
+fn write_all(rt: &(impl Print + Clock), text: &[u8]) -> io::Result<()> {
     let mut done = 0;
     while done < text.len() {
-        let n = write(&text[done..]);
+        let n = write(rt, &text[done..])?;
         if n == 0 {
-            return false;
+            return Err(io::Error::from(ErrorKind::WriteZero));
         }
         done += n;
     }
-    true
+    Ok(())
 }
 
 // ---- standard error
 
+// What the system says of the error, without its number.
+#[derive(Clone, Copy)]
+struct Reason(io::Error);
+
+impl fmt::Display for Reason {
+    fn fmt<W: fmt::Write>(&self, f: &mut fmt::Formatter<W>) -> fmt::Result {
+        let mut said = Cursor::new([0u8; 256]);
+        let _ = write!(said, "{}", self.0);
+        let n = (said.position() as usize).min(256);
+        let all = said.into_inner();
+        let text = str::from_utf8(&all[..n]).unwrap_or("");
+        match text.split_once(" (os error ") {
+            Some((reason, _)) => f.write_str(reason),
+            None => f.write_str(text),
+        }
+    }
+}
+
+// Standard error takes text. Bytes that are none are left out.
+fn words(bytes: &[u8]) -> &str {
+    str::from_utf8(bytes).unwrap_or("")
+}
+
+// The line for a stream that failed, behind the program's name. Where standard error cannot be written either, there is nobody to tell.
+fn put_failure(rt: &impl Eprint, program: &[u8], stream: &str, error: io::Error) {
+    let _ = eprintln!(rt; "{}: {stream}: {}", words(program), Reason(error));
+}
+
 // The line for a read that failed, after the program's name.
-pub fn cannot_read(program: &[u8]) {
-    io::write_all(libc::STDERR_FILENO, program);
-    os::fail(b": standard input");
+pub fn cannot_read(rt: &impl Eprint, program: &[u8], error: io::Error) {
+    put_failure(rt, program, "standard input", error);
 }
 
 // Whether all of text could be written; where not, a line says so.
-pub fn print(program: &[u8], text: &[u8]) -> bool {
-    if write_all(text) {
-        return true;
+pub fn print(rt: &(impl Print + Eprint + Clock), program: &[u8], text: &[u8]) -> bool {
+    match write_all(rt, text) {
+        Ok(()) => true,
+        Err(error) => {
+            put_failure(rt, program, "standard output", error);
+            false
+        }
     }
-    io::write_all(libc::STDERR_FILENO, program);
-    os::fail(b": standard output");
-    false
 }
 
 // ---- the arguments
+
+// Whether the program was given an argument i; its own name is 0.
+pub fn has_arg(rt: &impl Env, i: usize) -> bool {
+    !matches!(rt.arg(i, &mut []), Err(FillError::NotPresent))
+}
 
 // Whether the word is these letters.
 pub fn same_word(word: &[u8], letters: &[u8]) -> bool
@@ -140,17 +179,19 @@ pub fn same_word(word: &[u8], letters: &[u8]) -> bool
     false
 }
 
-fn is_help() -> bool {
+fn is_help(rt: &impl Env) -> bool {
     let mut word = [0u8; 8];
-    let n = os::arg(1, &mut word);
-    (os::arg_count() == 2) & same_word(&word[..n], b"--help")
+    match rt.arg(1, &mut word) {
+        Ok(n) => !has_arg(rt, 2) && same_word(&word[..n], b"--help"),
+        Err(_) => false,
+    }
 }
 
 // How the program is called: to standard output where its one argument is `--help`, and to standard error where its arguments are wrong.
-pub fn put_usage(program: &[u8], usage: &[u8]) {
-    if is_help() {
-        print(program, usage);
+pub fn put_usage(rt: &(impl Env + Print + Eprint + Clock), program: &[u8], usage: &[u8]) {
+    if is_help(rt) {
+        print(rt, program, usage);
         return;
     }
-    io::write_all(libc::STDERR_FILENO, usage);
+    let _ = eprint!(rt; "{}", words(usage));
 }
