@@ -2,7 +2,6 @@
 -- Assumes nothing.
 use Rattle.std.specs.Prelude.{◌≡◌, ℕ, ◌≤◌, List, length, take}
 use Rattle.streams.specs.declared.Input.{Input}
-use Rattle.streams.specs.declared.Input.TheVariants as Input
 
 -- so many bytes stand at the start of xs, and are what `&xs[..n]` has
 abbrev pub IsPrefixLen : ℕ → List ℕ → Type 0

@@ -1,5 +1,5 @@
 -- What was written lies within the lent bytes.
-use Rattle.std.proofs.Common.{◌≤◌, length, sym}
+use Rattle.std.proofs.Common.{sym}
 use Rattle.rangeset.proofs.Bytes.{bytes_count}
 use Rattle.origins.proofs.Within.{within}
 use Rattle.origins.proofs.put_spelled.Goals as goal
