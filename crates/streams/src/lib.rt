@@ -151,12 +151,14 @@ pub fn cannot_read(rt: &impl Eprint, program: &[u8], error: io::Error) {
     put_failure(rt, program, "standard input", error);
 }
 
-// Whether all of text could be written; where not, a line says so.
+// Whether all of text could be written; where not, a line says so, but where the reader of a pipe is gone: that is no failure of the program's.
 pub fn print(rt: &(impl Print + Eprint + Clock), program: &[u8], text: &[u8]) -> bool {
     match write_all(rt, text) {
         Ok(()) => true,
         Err(error) => {
-            put_failure(rt, program, "standard output", error);
+            if error.kind() != ErrorKind::BrokenPipe {
+                put_failure(rt, program, "standard output", error);
+            }
             false
         }
     }
