@@ -1,6 +1,6 @@
-// The shelf's edges as rows of data (stdin), in the manner of the program that replays 01's: each row is a call on one shelf, by the exported
-// functions. What a call answers is printed behind its row, and what it leaves as the Adler-32 checksum of all lent bytes; the gate holds both to the
-// file stdout.
+// The shelf's edges as rows of data (stdin), in the manner of the program that replays 01's: each row is a call on one shelf, by the functions that
+// `maluwesi_shelf_c` exports. What a call answers is printed behind its row, and what it leaves as the Adler-32 checksum of all lent bytes; the gate
+// holds both to the file stdout.
 //
 // A row is a line of five numbers, with a blank between, and behind it a text, with a newline behind it:
 //
