@@ -20,11 +20,12 @@ use Rattle.rules.proofs.Complete.{next-left, many-left, skip-spaces, skip-none, 
 -- where no further item is read, none has an extent
 after-extent : {s : List ℕ} → After s → next_extent s ≡ fail
 unfolding next_extent read_next ◌then◌
-after-extent {s} a = go (read_gap s) (after_next a)
+after-extent {s} a = go _ (read_gap s) (after_next a)
   where
-    go : (x : Result (Unit {0})) → (x then λ u t. read_item t) ≡ fail → (x then λ u t. read_item t then λ i r. ok (up_to t r) r) ≡ fail
-    go fail e = refl
-    go (ok u t) e = rw e
+    go : (f : List ℕ → List ℕ → Extent) (x : Result (Unit {0})) → (x then λ u t. read_item t) ≡ fail
+        → (x then λ u t. read_item t then λ i r. ok (f t r) r) ≡ fail
+    go f fail e = refl
+    go f (ok u t) e = rw e
 
 item-extent : {s t r : List ℕ} {i : Item} → Gap s t → ReadsItem t i r → Ends r → next_extent s ≡ ok (up_to t r) r
 unfolding next_extent ◌then◌
