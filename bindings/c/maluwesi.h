@@ -1,8 +1,8 @@
 /* Maluwesi: version ranges read, spelled and asked whether they admit a version, and a shelf of them.
  *
- * Link target/staticlib/libmaluwesi.a, which `bindings/archive` proves and writes. The functions are those of crates/maluwesi/src/lib.rt,
- * crates/maluwesi_equality/src/lib.rt and crates/maluwesi_shelf/src/lib.rt, where each stands with what is proved of it; docs/USERS.md has the rows,
- * the operators' codes, the shelf's bytes and the refusals with examples.
+ * Link target/staticlib/libmaluwesi.a, which `bindings/archive` proves and writes. The functions are those that crates/maluwesi_c/src/lib.rt,
+ * crates/maluwesi_equality_c/src/lib.rt and crates/maluwesi_shelf_c/src/lib.rt export, where each stands with what is proved of it; docs/USERS.md
+ * has the rows, the operators' codes, the shelf's bytes and the refusals with examples.
  *
  * What is asked of the caller, since C cannot ask it: no pointer is null, even where its length is 0; a length counts what may be read or written
  * at its pointer; and what a call writes overlaps nothing else that it is given. All else is tested: any bytes may stand in a text.
