@@ -98,7 +98,7 @@ module _ (c : Compat) (t words ids : List ℕ) where
       → parse c t ≡ handed t o words' ids'
   call-parse a o words' ids' e p q r short fit = rw (p, q, r, e) (handed-parse short fit)
 
--- ---- `read` of rangeset, and the exported `maluwesi_read`
+-- ---- `read` of rangeset, and `maluwesi_read`
 
 pub read-parse : (m : Compat) (κs : _) (args : _) (r : _) (exit : _) → Read.Post κs args r exit → compat_of args.1.0 ≡ mode m
     → length args.0.now ≤ longest → RowsFit (parse m args.0.now) (length args.1.1.0.now) (length args.1.1.1.0.now)

@@ -68,7 +68,7 @@ pub read-parse : (m : Compat) (κs : _) (args : _) (r : _) (exit : _) → Read.P
     → parse m args.0.now ≡ handed args.0.now (outcome_of r) exit.1.1.0.now exit.1.1.1.0.now
 read-parse = Calls.read-parse
 
--- `maluwesi_read`, which Rust and C link; behind the words it is lent the places of the three counts
+-- `maluwesi_read`, which the export of that name, with the same clauses, calls; behind the words it is lent the places of the three counts
 pub maluwesi-read-parse : (m : Compat) (κs : _) (args : _) (n : _) (exit : _) → MaluwesiRead.Post κs args n exit → mode_of args.1.0 ≡ accepted (mode m)
     → length args.0.now ≤ longest → RowsFit (parse m args.0.now) (length args.1.1.0.now) (length args.1.1.1.0.now)
     → parse m args.0.now ≡ handed args.0.now

@@ -1,6 +1,7 @@
 // The calls as Rust and C make them (bindings/): a slice is passed as a pointer and a length, and the mode as a number. Each but the
-// identifier bytes call returns 0, or the number of the refusal, and leaves its answer where it is told to. The names begin with the library's, since
-// they are the whole program's. The calls that stand on these are exported by `maluwesi_equality`, and the shelf's by `maluwesi_shelf`.
+// identifier bytes call returns 0, or the number of the refusal, and leaves its answer where it is told to. `maluwesi_c` exports each under its name,
+// which begins with the library's, since it is the whole program's. The calls that stand on these are in `maluwesi_equality`, and the shelf's in
+// `maluwesi_shelf`.
 #![tactic(auto)]
 
 ghost use Rattle.std.specs.Prelude.{◌≡◌, length, take, drop};

@@ -1,5 +1,5 @@
-// The calls of `equality` as Rust and C make them (bindings/), as `maluwesi` has the others. They stand apart since they call those: in one crate
-// the functions that both call would no longer be compiled into each (docs/DECISIONS.md).
+// The calls of `equality` as Rust and C make them (bindings/), as `maluwesi` has the others. They and the crate that exports them stand apart since
+// they call what those call: in one static library the functions that both call would no longer be compiled into each (docs/DECISIONS.md).
 #![tactic(auto)]
 
 ghost use Rattle.std.specs.Prelude.{◌≡◌, length};
