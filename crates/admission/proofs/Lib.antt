@@ -1,4 +1,3 @@
 pub mod Verdicts
-pub mod Holding
 pub mod Meeting
 pub mod Admitting

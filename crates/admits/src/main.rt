@@ -2,263 +2,150 @@
 // a line, and writes each line with its answer; or one line, where the range is refused.
 #![tactic(auto)]
 
-ghost use Rattle.std.specs.Prelude.{◌+◌, ◌≤◌, ◌≡◌, length};
+ghost use Rattle.std.specs.Prelude.{◌+◌, ◌≤◌, ◌≡◌, OnOk};
 ghost use Rattle.rules.specs.Admits.{verdict_room};
-ghost use Rattle.range.specs.Views.{compat_of};
-ghost use Rattle.passes.specs.Views.{Accepts};
 
 use memchr::memchr;
-use range::{Compat, Mode};
+use range::Compat;
+use rangeset::RangeSet;
 use std::env::Env;
 use std::io;
+use std::io::Write;
 use std::time::Clock;
-use streams::Input;
-use verdicts::{hold, put_refused_range, put_verdict};
+use streams::{Failure, Output};
+use verdicts::{hold, parse_or_put, put_verdict};
 
-// ---- the answers, in blocks
-
-// How many answers' bytes stand at the start of the block, and whether a write failed.
-#[derive(Clone, Copy)]
-struct Block {
-    failed: bool,
-    filled: usize,
+// The first bytes of the line that is not ended. It is full where the line is over 65,535 bytes.
+#[derive(Drop)]
+struct Line {
+    bytes: [u8; 65536],
+    held: usize,
+    ghost within: { held ≤ 65536 },
 }
 
-// Writes the block, unless a line of any length has room in it.
-fn with_room(rt: &(impl Print + Eprint + Clock), out: &[u8], filled: usize) -> Block
-    requires verdict_room_in_bounds { verdict_room ≤ length out.now }
-    requires filled_in_bounds { filled ≤ length out.now }
-    ensures { result.filled + verdict_room ≤ length out.now }
-{
-    if out.len() - filled >= verdicts::ROOM {
-        return Block {
-            failed: false,
-            filled,
-        };
+impl Line {
+    fn hold(&mut self, part: &[u8]) {
+        self.held = hold(&mut self.bytes, self.held, part);
     }
-    let failed = !streams::print(rt, b"admits", &out[..filled]);
-    Block { failed, filled: 0 }
+
+    fn held(&self) -> &[u8] {
+        &self.bytes[..self.held]
+    }
 }
 
-// Puts the line with its answer behind the block's bytes.
-fn answer(
-    rt: &(impl Print + Eprint + Clock),
-    range: &[u8],
-    compat: Compat,
-    line: &[u8],
-    out: &mut [u8],
+// Lines with their answers, which are written when there are many.
+#[derive(Drop)]
+struct Block<W> {
+    out: W,
+    bytes: [u8; 131072],
     filled: usize,
-) -> Block
-    requires accepts { Accepts (compat_of compat) range.now }
-    requires verdict_room_in_bounds { verdict_room ≤ length out.old }
-    requires filled_in_bounds { filled ≤ length out.old }
-    ensures { result.filled ≤ length out.new }
-{
-    let b = with_room(rt, out, filled);
-    let at = b.filled;
-    let len = put_verdict(range, compat, line, &mut out[at..]);
-    Block {
-        failed: b.failed,
-        filled: at + len,
+    ghost within: { filled ≤ 131072 },
+}
+
+impl<W: Write> Block<W> {
+    fn flush(&mut self) -> io::Result<()>
+        ensures { self.new.filled ≡ 0 }
+    {
+        let filled = self.filled;
+        self.filled = 0;
+        self.out.write_all(&self.bytes[..filled])
+    }
+
+    // Writes the block, unless a line of any length has room in it.
+    fn make_room(&mut self) -> io::Result<()>
+        ensures { OnOk result (self.new.filled + verdict_room ≤ 131072) }
+    {
+        if self.bytes.len() - self.filled < verdicts::ROOM {
+            self.flush()?;
+        }
+        Ok(())
+    }
+
+    // Puts the line with its answer behind the others.
+    fn answer(&mut self, set: &RangeSet<'_>, line: &[u8]) -> io::Result<()> {
+        self.make_room()?;
+        self.filled += put_verdict(set, line, &mut self.bytes[self.filled..]);
+        Ok(())
     }
 }
 
 // ---- the lines
 
-// Whether to go on, and how many bytes are held of the line that is not ended.
-#[derive(Clone, Copy)]
-struct Progress {
-    ended: bool,
-    held: usize,
-}
-
-// Writes the block's bytes.
-fn flush(rt: &(impl Print + Eprint + Clock), out: &[u8], filled: usize, held: usize) -> Progress
-    requires { filled ≤ length out.now }
-    ensures { result.held ≡ held }
-{
-    let ended = !streams::print(rt, b"admits", &out[..filled]);
-    Progress { ended, held }
-}
-
-// Where the line that begins at `at` ends: before a 0A, or at the end of the chunk.
-fn end_of_line(chunk: &[u8], at: usize) -> usize
-    requires { at ≤ length chunk.now }
-    ensures from_at { at ≤ result }
-    ensures within { result ≤ length chunk.now }
-{
-    match memchr(b'\n', &chunk[at..]) {
-        Some(n) => at + n,
-        None => chunk.len(),
-    }
-}
-
-// Answers the lines that end in the chunk. `line` holds the first bytes of the line that is not ended, `held` many before and as many as is
-// answered after; it is full where the line is over 65,535 bytes.
+// Answers the lines that end in the chunk.
 fn answer_chunk(
-    rt: &(impl Print + Eprint + Clock),
-    range: &[u8],
-    compat: Compat,
+    set: &RangeSet<'_>,
     chunk: &[u8],
-    line: &mut [u8],
-    held: usize,
-    out: &mut [u8],
-) -> Progress
-    requires accepts { Accepts (compat_of compat) range.now }
-    requires verdict_room_in_bounds { verdict_room ≤ length out.old }
-    requires held_in_bounds { held ≤ length line.old }
-    ensures { result.held ≤ length line.new }
-{
-    let mut kept = held;
-    let mut at = 0;
-    let mut filled = 0;
-    while at < chunk.len() {
-        let end = end_of_line(chunk, at);
-        kept = hold(line, kept, &chunk[at..end]);
-        if end == chunk.len() {
-            return flush(rt, out, filled, kept);
-        }
-        let b = answer(rt, range, compat, &line[..kept], out, filled);
-        if b.failed {
-            return Progress {
-                ended: true,
-                held: 0,
-            };
-        }
-        filled = b.filled;
-        kept = 0;
-        at = end + 1;
+    line: &mut Line,
+    block: &mut Block<impl Write>,
+) -> io::Result<()> {
+    let mut rest = chunk;
+    while let Some(n) = memchr(b'\n', rest) {
+        let (end, behind) = rest.split_at(n);
+        line.hold(end);
+        block.answer(set, line.held())?;
+        line.held = 0;
+        rest = &behind[1..];
     }
-    flush(rt, out, filled, kept)
+    line.hold(rest);
+    block.flush()
 }
 
 // Answers the last line, which needs no 0A.
-fn answer_last(
-    rt: &(impl Print + Eprint + Clock),
-    range: &[u8],
-    compat: Compat,
-    line: &[u8],
-    out: &mut [u8],
-) -> Progress
-    requires accepts { Accepts (compat_of compat) range.now }
-    requires verdict_room_in_bounds { verdict_room ≤ length out.old }
-    ensures { result.held ≡ 0 }
-{
-    if line.len() > 0 {
-        let len = put_verdict(range, compat, line, out);
-        streams::print(rt, b"admits", &out[..len]);
+fn answer_last(set: &RangeSet<'_>, line: &Line, block: &mut Block<impl Write>) -> io::Result<()> {
+    if line.held > 0 {
+        block.answer(set, line.held())?;
     }
-    Progress {
-        ended: true,
-        held: 0,
-    }
+    block.flush()
 }
 
-// ---- standard input
-
-// Answers what one read gave: no bytes are the end of the input.
-fn answer_read(
-    rt: &(impl io::Input + Print + Eprint + Clock),
-    range: &[u8],
-    compat: Compat,
-    chunk: &[u8],
-    line: &mut [u8],
-    held: usize,
-    out: &mut [u8],
-) -> Progress
-    requires accepts { Accepts (compat_of compat) range.now }
-    requires verdict_room_in_bounds { verdict_room ≤ length out.old }
-    requires held_in_bounds { held ≤ length line.old }
-    ensures { result.held ≤ length line.new }
-{
-    if chunk.len() == 0 {
-        return answer_last(rt, range, compat, &line[..held], out);
-    }
-    answer_chunk(rt, range, compat, chunk, line, held, out)
-}
-
-// Reads once, and answers the lines that ended. Where the read fails, the line that is not ended has no answer.
-fn answer_some(
-    rt: &(impl io::Input + Print + Eprint + Clock),
-    range: &[u8],
-    compat: Compat,
-    line: &mut [u8],
-    held: usize,
-    out: &mut [u8],
-) -> Progress
-    requires accepts { Accepts (compat_of compat) range.now }
-    requires verdict_room_in_bounds { verdict_room ≤ length out.old }
-    requires held_in_bounds { held ≤ length line.old }
-    ensures { result.held ≤ length line.new }
-{
-    let mut chunk = [0u8; 65536];
-    let r = streams::read(rt, &mut chunk);
-    match r {
-        Input::Bytes(n) => answer_read(rt, range, compat, &chunk[..n], line, held, out),
-        Input::Failed(error) => {
-            streams::cannot_read(rt, b"admits", error);
-            Progress {
-                ended: true,
-                held: 0,
-            }
-        }
-    }
-}
-
-// The turns are counted down, from a number that no run uses up.
+// No bytes are the end of the input. Where a read fails, the line that is not ended has no answer. The reads are counted, up to a number that no run
+// uses up.
 fn answer_all(
-    rt: &(impl io::Input + Print + Eprint + Clock),
-    range: &[u8],
-    compat: Compat,
-    line: &mut [u8],
-    out: &mut [u8],
-)
-    requires accepts { Accepts (compat_of compat) range.now }
-    requires verdict_room_in_bounds { verdict_room ≤ length out.old }
-{
-    let mut held = 0;
-    let mut turns = u64::MAX;
-    while turns > 0 {
-        let p = answer_some(rt, range, compat, line, held, out);
-        held = p.held;
-        turns -= 1;
-        if p.ended {
-            turns = 0;
+    rt: &(impl io::Input + Print + Clock),
+    set: &RangeSet<'_>,
+    line: &mut Line,
+    block: &mut Block<impl Write>,
+) -> Result<(), Failure> {
+    let mut chunk = [0u8; 65536];
+    for _ in 0..u64::MAX {
+        let n = streams::read(rt, &mut chunk).map_err(Failure::Input)?;
+        if n == 0 {
+            return answer_last(set, line, block).map_err(Failure::Output);
         }
+        answer_chunk(set, &chunk[..n], line, block).map_err(Failure::Output)?;
     }
+    Ok(())
+}
+
+fn answer_lines(rt: &(impl io::Input + Print + Clock), set: &RangeSet<'_>) -> Result<(), Failure> {
+    let mut line = Line {
+        bytes: [0; 65536],
+        held: 0,
+    };
+    let mut block = Block {
+        out: Output(rt),
+        bytes: [0; 131072],
+        filled: 0,
+    };
+    answer_all(rt, set, &mut line, &mut block)
 }
 
 // ---- the arguments
 
-fn answer_lines(rt: &(impl io::Input + Print + Eprint + Clock), compat: Compat, range: &[u8])
-    requires { Accepts (compat_of compat) range.now }
-{
-    let mut line = [0u8; 65536];
-    let mut out = [0u8; 131072];
-    answer_all(rt, range, compat, &mut line, &mut out);
-}
-
-// The range's refusals are decided once, and not for each version.
-fn run(rt: &(impl io::Input + Print + Eprint + Clock), compat: Compat, range: &[u8]) {
+// The range is read once, and not for each version.
+fn run(rt: &(impl Env + io::Input + Print + Clock), compat: Compat) -> Result<(), Failure> {
+    let mut text = [0u8; 65536];
+    let n = arguments::range(rt, &mut text);
     let mut out = [0u8; verdicts::ROOM];
-    let len = put_refused_range(range, compat, &mut out);
-    if len == 0 {
-        answer_lines(rt, compat, range);
-        return;
+    match parse_or_put(&text[..n], compat, &mut out) {
+        Ok(set) => answer_lines(rt, &set),
+        Err(len) => Output(rt).write_all(&out[..len]).map_err(Failure::Output),
     }
-    streams::print(rt, b"admits", &out[..len]);
-}
-
-fn run_mode(rt: &(impl Env + io::Input + Print + Eprint + Clock), compat: Compat) {
-    let mut range = [0u8; 65536];
-    let n = arguments::range(rt, &mut range);
-    run(rt, compat, &range[..n]);
 }
 
 fn main(rt: HostRuntime) {
-    let mode = arguments::mode(&rt);
-    match mode {
-        Mode::Compat(compat) => run_mode(&rt, compat),
-        Mode::Nothing => streams::put_usage(&rt, b"admits", b"admits cargo|npm RANGE < VERSIONS\n"),
+    match arguments::mode(&rt) {
+        Some(compat) => streams::tell(&rt, b"admits", run(&rt, compat)),
+        None => streams::put_usage(&rt, b"admits", b"admits cargo|npm RANGE < VERSIONS\n"),
     }
 }

@@ -3,26 +3,22 @@
 
 ghost use Rattle.streams.specs.Views.{IsPrefixLen};
 
-use range::{Compat, Mode};
+use range::Compat;
 use std::env::{Env, FillError};
-use streams::{has_arg, same_word};
+use streams::has_arg;
 
-// The mode that the first names in letters; nothing where it names none, or where the arguments are not two.
-pub fn mode(rt: &impl Env) -> Mode {
+// The mode that the first names in letters; none where it names none, or where the arguments are not two.
+pub fn mode(rt: &impl Env) -> Option<Compat> {
+    if !has_arg(rt, 2) || has_arg(rt, 3) {
+        return None;
+    }
     let mut word = [0u8; 8];
-    let Ok(n) = rt.arg(1, &mut word) else {
-        return Mode::Nothing;
-    };
-    if !has_arg(rt, 2) | has_arg(rt, 3) {
-        return Mode::Nothing;
+    let n = rt.arg(1, &mut word).ok()?;
+    match &word[..n] {
+        b"cargo" => Some(Compat::Cargo),
+        b"npm" => Some(Compat::Npm),
+        _ => None,
     }
-    if same_word(&word[..n], b"cargo") {
-        return Mode::Compat(Compat::Cargo);
-    }
-    if same_word(&word[..n], b"npm") {
-        return Mode::Compat(Compat::Npm);
-    }
-    Mode::Nothing
 }
 
 // Puts the second, the range, at the start of text, and answers its length. Of one that is longer than text it puts the first bytes, and answers

@@ -19,7 +19,7 @@ use Rattle.rules.proofs.ReadingCall.{call-refused, call-accepts}
 use Rattle.rules.proofs.Equal.{placeless-comparators, placeless-identifiers}
 use Rattle.range.specs.Views.{compat_of}
 use Rattle.rangeset.specs.Views.{outcome_of}
-use Rattle.rangeset.proofs.read.Reads as Read
+use Rattle.reading.proofs.read.Reads as Read
 use Rattle.numbers.specs.Views.{outcome}
 use Rattle.maluwesi.proofs.maluwesi_read.Reads as MaluwesiRead
 use Rattle.rules.proofs.RowsLaws.{words-length, names-length}

@@ -16,7 +16,7 @@ use Rattle.rules.specs.Answers.{accepted, refused, longest, reading}
 use Rattle.rules.specs.Exported.{mode_of}
 use Rattle.range.specs.Views.{compat_of}
 use Rattle.rangeset.specs.Views.{outcome_of}
-use Rattle.rangeset.proofs.read.Reads as Read
+use Rattle.reading.proofs.read.Reads as Read
 use Rattle.numbers.specs.Views.{outcome}
 use Rattle.maluwesi.proofs.maluwesi_read.Reads as MaluwesiRead
 use Rattle.reference.specs.Range.{Compat}

@@ -20,37 +20,19 @@ use Rattle.shelf_rules.specs.Shelf.{entry_row, kept_row, entry_places, with_entr
 use Rattle.shelf_rules.proofs.TableLaws.{rows-concat, removed-length}
 use Rattle.shelf_rules.proofs.KeptLaws.{kept-length}
 use Rattle.shelf_rules.proofs.EntryLaws.{entry_length}
-use Rattle.memory.proofs.Numbers.{two-put}
-use Rattle.entries.specs.Views.{Counted}
+use Rattle.entries.specs.Counted.{Counted}
 
 -- ---- put_entry
 
 module _ (e : List ℕ) (h : 100 ≤ length e) (code : ℕ) (y : List ℕ) (p : y ≡ low_first 2 code ++ drop 2 e) where
   code_put : y ≡ sets e 0 (low_first 2 code)
   unfolding low_first
-  code_put = p ∙ sym (two-put e code (omega arith))
+  code_put = p ∙ sym (sets-eq (low_first 2 code) e 0 (omega arith))
 
-  pub entry-same : length y ≡ length e
-  entry-same = rw (code_put, length-sets)
-
-  pub entry-third : 2 < length y
-  entry-third = omega (arith, entry-same)
-
-  pub entry-fourth : (v : ℕ) → 3 < length (set y 2 v)
-  entry-fourth v = simp length-set (omega (arith, entry-same))
-
-  pub entry-room : (v w : ℕ) → 4 + 96 ≤ length (set (set y 2 v) 3 w)
-  entry-room v w = simp length-set (omega (arith, entry-same))
-
-  pub entry-all : (v w : ℕ) (x z : List ℕ) → z ≡ sets (set (set y 2 v) 3 w) 4 x → length z ≡ length e
-  entry-all v w x z r = rw (r, length-sets, length-set, length-set) entry-same
-
-  pub entry-put : (m : Compat) (t : List ℕ) (k : ℕ) → k ≡ mode_number m → (z : List ℕ)
+  pub entry_stored : (m : Compat) (t : List ℕ) (k : ℕ) → k ≡ mode_number m → (z : List ℕ)
       → z ≡ sets (set (set y 2 k) 3 (length t)) 4 (t ++ replicate (96 - length t) 0) → z ≡ sets e 0 (entry_row code m t)
   unfolding entry_row low_first
-  entry-put m t k q z r = r ∙ rw (code_put, q)
-
-pub ruleset entry_puts = (entry-same, entry-third, entry-fourth, entry-room, entry-all, entry-put)
+  entry_stored m t k q z r = r ∙ rw (code_put, q)
 
 -- ---- a row stored is a row added
 
@@ -86,25 +68,19 @@ sets-right t k j e h =
     (append_assoc (t ++ take j k) e (drop (j + length e) k) ∙ append_assoc t (take j k) (e ++ drop (j + length e) k)
     ∙ ap (λ r. t ++ r) (sym (append_assoc (take j k) e (drop (j + length e) k))))
 
--- ---- add_rows
+-- ---- add_at
 
 module _ (l : List ℕ) (n : ℕ) (c : Counted l n) (h : n < 256) where
-  pub add-room : 100 ≤ length (take (length l - (2 + 100 * n)) (drop (2 + 100 * n) l))
-  add-room = let s = c.sized in simp (length-take, length-drop) (omega arith)
-
   module _ (e y : List ℕ) (p : y ≡ sets (take (length l - (2 + 100 * n)) (drop (2 + 100 * n) l)) 0 e) where
     entry-stored : put_mid (2 + 100 * n) (length l - (2 + 100 * n)) l y ≡ sets l (2 + 100 * n) e
     entry-stored = part-back l (2 + 100 * n) e p
 
-    pub kept-room : 25602 + 48 * n + 48 ≤ length (put_mid (2 + 100 * n) (length l - (2 + 100 * n)) l y)
-    kept-room = let s = c.sized in omega (arith, ap length entry-stored, length-sets l (2 + 100 * n) e)
-
-  pub add-rows-done : (code : ℕ) (m : Compat) (x y r : List ℕ) (b : Bounds) (i : ℕ) → length x ≤ 96
+  pub entry_added : (code : ℕ) (m : Compat) (x y r : List ℕ) (b : Bounds) (i : ℕ) → length x ≤ 96
       → y ≡ sets (take (length l - (2 + 100 * n)) (drop (2 + 100 * n) l)) 0 (entry_row code m x)
       → Put (put_mid (2 + 100 * n) (length l - (2 + 100 * n)) l y) (25602 + 48 * n) (kept_row b) r i
       → low_first 2 (n + 1) ++ drop 2 r ≡ with_entry (entry_row code m x) (kept_row b) l
   unfolding with_entry
-  add-rows-done code m x y r b i k p q =
+  entry_added code m x y r b i k p q =
       let s = c.sized in
       let e = entry_row code m x in
       let w = kept_row b in
@@ -129,9 +105,7 @@ module _ (l : List ℕ) (n : ℕ) (c : Counted l n) (h : n < 256) where
       ap₂ (λ i z. low_first 2 i ++ z) (add-one n) both
       ∙ ap (λ i. low_first 2 (suc i) ++ (row_added 100 i e (entry_places l) ++ row_added 48 i w (drop 25602 l))) (sym c.is)
 
-pub ruleset row_adds = (add-room, kept-room, add-rows-done)
-
--- ---- remove_rows
+-- ---- remove_at
 
 -- a list whose part from a up to c becomes y, and then what stands from c on becomes z
 module _ (l y : List ℕ) (a c : ℕ) (ac : a ≤ c) (h : c ≤ length l) (e : length y ≡ c - a) where
@@ -164,7 +138,7 @@ module _ (l y : List ℕ) (a c : ℕ) (ac : a ≤ c) (h : c ≤ length l) (e : l
       ap (drop a) (twice-is z ∙ append_assoc (take a l) y z) ∙ drop_at (take a l) (y ++ z) a (length-take-le a l (omega arith))
 
 module _ (l : List ℕ) (n k : ℕ) (c : Counted l n) (h : k < n) where
-  pub rows-room : 100 * n ≤ length (take (25602 - 2) (drop 2 l))
+  rows-room : 100 * n ≤ length (take (25602 - 2) (drop 2 l))
   rows-room = let s = c.sized in let f = c.few in simp (length-take, length-drop) (omega arith)
 
   module _ (y : List ℕ) (p : y ≡ row_removed 100 n k (take (25602 - 2) (drop 2 l))) where
@@ -177,29 +151,10 @@ module _ (l : List ℕ) (n k : ℕ) (c : Counted l n) (h : k < n) where
     inside : 25602 ≤ length l
     inside = let s = c.sized in omega arith
 
-    pub kept-within : 25602 ≤ length (put_mid 2 (25602 - 2) l y)
-    kept-within = omega (arith, once-length l y 2 25602 (omega arith) inside same, inside)
-
-    pub kepts-room : 48 * n ≤ length (take (length (put_mid 2 (25602 - 2) l y) - 25602) (drop 25602 (put_mid 2 (25602 - 2) l y)))
-    kepts-room =
-        let s = c.sized in let f = c.few in
-        let e = ap length (once-rest l y 2 25602 (omega arith) inside same) in
-        omega (arith, length-drop 25602 l)
-
-    pub rows-done : (z : List ℕ) → z ≡ row_removed 48 n k (take (length (put_mid 2 (25602 - 2) l y) - 25602) (drop 25602 (put_mid 2 (25602 - 2) l y)))
+    pub entry_removed : (z : List ℕ) → z ≡ row_removed 48 n k (take (length (put_mid 2 (25602 - 2) l y) - 25602) (drop 25602 (put_mid 2 (25602 - 2) l y)))
         → low_first 2 (n - 1) ++ drop 2 (put_mid 25602 (length (put_mid 2 (25602 - 2) l y) - 25602) (put_mid 2 (25602 - 2) l y) z) ≡ without_entry k l
     unfolding without_entry
-    rows-done z q =
+    entry_removed z q =
         ap (λ r. low_first 2 (n - 1) ++ r)
         (twice-drop l y 2 25602 (omega arith) inside same z ∙ ap₂ ◌++◌ p (q ∙ ap (row_removed 48 n k) (once-rest l y 2 25602 (omega arith) inside same)))
         ∙ ap (λ i. low_first 2 (i - 1) ++ (row_removed 100 i k (entry_places l) ++ row_removed 48 i k (drop 25602 l))) (sym c.is)
-
-pub ruleset row_removals = (rows-room, kept-within, kepts-room, rows-done)
-
--- ---- add_at, remove_at
-
--- the count in the first two bytes
-pub counted : (r w y x : List ℕ) → w ++ drop 2 y ≡ x → r ≡ w ++ drop 2 y → r ≡ x
-counted r w y x p q = q ∙ p
-
-pub ruleset counts = (counted)

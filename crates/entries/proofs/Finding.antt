@@ -1,75 +1,60 @@
--- How many entries there are, and which has a code: a law for each of the code's ways.
+-- The first place that passes a test, and the rules' searches through the rows.
 -- Assumes nothing.
-use Prim.Native.Nat.{ℕ, suc, ◌+◌, ◌*◌, ◌≤◌, ◌<◌}
-use mathlib.Core.Path.{◌≡◌, refl, sym, ◌∙◌}
-use mathlib.Core.Option.{none, some}
-use mathlib.Core.List.{List, [], ◌∷◌}
-use native.Mathlib.Omega.{arith}
-use native.Mathlib.Numerals.{add-one}
-use borrow.Author.Tests.{eq-eqb, ne_eqb, le-leb, lt-leb}
-use lib.ListN.{length, take, drop, drop_of_length-le}
-use lib.Seq.{take-take, drop-drop, drop-cons}
-use Rattle.rules.specs.Answers.{accepted, refused, map_answer}
-use Rattle.shelf_rules.specs.Table.{number_in, rows_of}
-use Rattle.shelf_rules.specs.Shelf.{code_in, count_in, find_code, find_from, sized, shelf_in}
-use Rattle.shelf_rules.proofs.TableLaws.{rows-length, rows_at}
-use Rattle.entries.specs.Views.{row_at}
+use Rattle.std.specs.Prelude as Std
+use Rattle.std.specs.Option.{MatchOption}
+use Rattle.std.proofs.Common.{◌≡◌, refl, sym, ◌∙◌, ℕ, zero, suc, ◌≤◌, ◌<◌, Bool, true, false, List, drop, arith, eqb}
+use Rattle.shelf_rules.specs.Table.{rows_of}
+use Rattle.shelf_rules.specs.Shelf.{code_in, find_code, find_from, first_code}
+use Rattle.shelf_rules.specs.Lookup.{first_kept}
+use Rattle.entries.specs.Views.{option_of, row_at, kept_at, IsFirst}
+use Rattle.entries.proofs.Rows.{no_row, next_row, next_kept}
 
--- ---- code_at
+-- what `find` over 0..n says of the place that it finds
+abbrev pub Found : (ℕ → Bool) → ℕ → Std.Option ℕ → Type 0
+Found q n r = MatchOption r ((k : ℕ) → 0 ≤ k → k < n → q k ≡ false) (λ i. (0 ≤ i) × (i < n) × (q i ≡ true) × ((k : ℕ) → 0 ≤ k → k < i → q k ≡ false))
 
-pub code_is : (l : List ℕ) (k c : ℕ) → c ≡ number_in (take 2 (drop (2 + 100 * k) l)) → c ≡ code_in (row_at k l)
-code_is l k c e = e ∙ rw (take-take 2 100 (drop (100 * k) (drop 2 l)) (omega arith), drop-drop)
+module _ (l : List ℕ) (n : ℕ) where
+  abbrev rows : List (List ℕ)
+  rows = rows_of 100 n (drop 2 l)
 
-pub ruleset codes = (code_is)
+  -- ---- by code
 
--- ---- count_entries
-
-module _ (l : List ℕ) where
-  module _ (n : ℕ) (e : n ≡ number_in (take 2 (drop 0 l))) (h : length l ≡ 37890) where
-    pub counted-yes : n ≤ 256 → accepted n ≡ map_answer count_in (shelf_in l)
-    unfolding shelf_in sized
-    counted-yes g = rw (eq-eqb (length l) 37890 h, ← e, le-leb n 256 g, ← e)
-
-    pub counted-many : 256 < n → refused 10 ≡ map_answer count_in (shelf_in l)
-    unfolding shelf_in sized
-    counted-many g = rw (eq-eqb (length l) 37890 h, ← e, lt-leb n 256 g)
-
-  pub counted-other : (length l ≡ 37890 → ⊥) → refused 10 ≡ map_answer count_in (shelf_in l)
-  unfolding shelf_in sized
-  counted-other h = rw (ne_eqb (length l) 37890 h)
-
-pub ruleset countings = (counted-yes, counted-many, counted-other)
-
--- ---- find_code
-
--- no entry before k has the code
-pub record Finding (code : ℕ) (es : List (List ℕ)) (k : ℕ) : Type 0 where
-  pub is : find_code code es ≡ find_from k code (drop k es)
-
--- the entries from k on: none behind the last, else the one at k and the others
-module _ (l : List ℕ) (n k : ℕ) where
-  pub no_row : n ≤ k → drop k (rows_of 100 n (drop 2 l)) ≡ []
-  no_row h = drop_of_length-le (rows_of 100 n (drop 2 l)) {i = k} (omega (arith, rows-length 100 n (drop 2 l)))
-
-  pub next_row : k < n → drop k (rows_of 100 n (drop 2 l)) ≡ row_at k l ∷ drop (suc k) (rows_of 100 n (drop 2 l))
-  next_row h = drop-cons (rows_of 100 n (drop 2 l)) k [] (omega (arith, rows-length 100 n (drop 2 l))) ∙ rw (rows_at 100 n k (drop 2 l) h)
-
-module _ (l : List ℕ) (n code : ℕ) where
-  pub finding-start : Finding code (rows_of 100 n (drop 2 l)) 0
-  finding-start = record { is = refl }
-
-  module _ (k : ℕ) (f : Finding code (rows_of 100 n (drop 2 l)) k) where
-    pub finding-none : n ≤ k → none ≡ find_code code (rows_of 100 n (drop 2 l))
+  module _ (code : ℕ) where
+    passed_codes : (k : ℕ) → k ≤ n → ((j : ℕ) → j < k → eqb (code_in (row_at j l)) code ≡ false) → find_code code rows ≡ find_from k code (drop k rows)
     unfolding find_from
-    finding-none h = sym (rw (no_row l n k h) at f.is)
+    passed_codes zero h f = refl
+    passed_codes (suc k) h f = passed_codes k (omega arith) (λ j i. f j (omega arith)) ∙ rw (next_row l n k h, f k (omega arith))
 
-    module _ (h : k < n) (c : ℕ) (e : c ≡ code_in (row_at k l)) where
-      pub finding-here : c ≡ code → some k ≡ find_code code (rows_of 100 n (drop 2 l))
-      unfolding find_from
-      finding-here q = sym (f.is ∙ rw (next_row l n k h, ← e, eq-eqb c code q))
+    pub found_code : (r : Std.Option ℕ) → Found (λ k. eqb (code_in (row_at k l)) code) n r → option_of r ≡ find_code code rows
+    unfolding find_from
+    found_code Std.None f = sym (passed_codes n (omega arith) (λ j i. f j (omega arith) i) ∙ rw (no_row l n n (omega arith)))
+    found_code (Std.Some k) (z, h, q, f) = sym (passed_codes k (omega arith) (λ j i. f j (omega arith) i) ∙ rw (next_row l n k h, q))
 
-      pub finding-more : (c ≡ code → ⊥) → Finding code (rows_of 100 n (drop 2 l)) (k + 1)
-      unfolding find_from
-      finding-more q = record { is = f.is ∙ rw (next_row l n k h, ← e, ne_eqb c code q, add-one) }
+  -- ---- by the row
 
-pub ruleset findings = (finding-start, finding-none, finding-here, finding-more)
+  module _ (p : List ℕ → Bool) where
+    passed_rows : (k : ℕ) → k ≤ n → ((j : ℕ) → j < k → p (row_at j l) ≡ false) → first_code p rows ≡ first_code p (drop k rows)
+    unfolding first_code
+    passed_rows zero h f = refl
+    passed_rows (suc k) h f = passed_rows k (omega arith) (λ j i. f j (omega arith)) ∙ rw (next_row l n k h, f k (omega arith))
+
+    pub first_row : (r : Std.Option ℕ) → IsFirst (λ k. p (row_at k l)) n l r → option_of r ≡ first_code p rows
+    unfolding first_code
+    first_row Std.None f = sym (passed_rows n (omega arith) f ∙ rw (no_row l n n (omega arith)))
+    first_row (Std.Some c) (k, h, q, f, e) = sym (passed_rows k (omega arith) f ∙ rw (next_row l n k h, q, e))
+
+  -- ---- by the row and its triples
+
+  module _ (p : List ℕ → List ℕ → Bool) where
+    abbrev kepts : List (List ℕ)
+    kepts = rows_of 48 n (drop 25602 l)
+
+    passed_kepts : (k : ℕ) → k ≤ n → ((j : ℕ) → j < k → p (row_at j l) (kept_at j l) ≡ false) → first_kept p rows kepts ≡ first_kept p (drop k rows) (drop k kepts)
+    unfolding first_kept
+    passed_kepts zero h f = refl
+    passed_kepts (suc k) h f = passed_kepts k (omega arith) (λ j i. f j (omega arith)) ∙ rw (next_row l n k h, next_kept l n k h, f k (omega arith))
+
+    pub first_kept_row : (r : Std.Option ℕ) → IsFirst (λ k. p (row_at k l) (kept_at k l)) n l r → option_of r ≡ first_kept p rows kepts
+    unfolding first_kept
+    first_kept_row Std.None f = sym (passed_kepts n (omega arith) f ∙ rw (no_row l n n (omega arith)))
+    first_kept_row (Std.Some c) (k, h, q, f, e) = sym (passed_kepts k (omega arith) f ∙ rw (next_row l n k h, next_kept l n k h, q, e))

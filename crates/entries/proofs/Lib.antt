@@ -1,4 +1,4 @@
-pub mod CountedLaws
+pub mod Rows
 pub mod Finding
-pub mod Parts
+pub mod Counting
 pub mod Changing

@@ -1,35 +1,32 @@
--- What the code knows of a shelf's bytes, and what it hands back of them.
+-- What the code hands back of a shelf's bytes.
 -- Assumes nothing.
-use Rattle.std.specs.Prelude.{ℕ, ◌+◌, ◌*◌, ◌≤◌, ◌≡◌, List, length, take, drop}
+use Rattle.std.specs.Prelude as Std
+use Rattle.std.specs.Prelude.{◌≡◌, ℕ, ◌+◌, ◌*◌, ◌<◌, Bool, true, false, List, length, take, drop, Result, Ok, Err}
 use Rattle.std.proofs.Math.Option.{Option, none, some}
 use Rattle.rules.specs.Answers.{Answer, accepted, refused}
+use Rattle.refusals.specs.Views.{number_of}
+use Rattle.refusals.specs.declared.Refusal.{Refusal}
 use Rattle.shelf_rules.specs.Shelf as S
-use Rattle.shelf_rules.specs.Shelf.{shelf_size, capacity, entry_width, count_in, text_in}
-use Rattle.entries.specs.declared.Part.{Part}
-use Rattle.entries.specs.declared.Found.{Found}
-use Rattle.entries.specs.declared.Count.{Count}
+use Rattle.shelf_rules.specs.Shelf.{entry_width, kept_width, kept_place, code_in, text_in}
+use Rattle.entries.specs.declared.entries.Part.{Part}
+use Rattle.entries.specs.declared.entries.Entries.{Entries}
 
--- ---- what is known
+-- the library's options for the rules'
+abbrev pub option_of : {A : Type 0} → Std.Option A → Option A
+option_of (Std.Some a) = some a
+option_of Std.None = none
 
--- the bytes l are a shelf with n entries: 10 does not apply
-pub record Counted (l : List ℕ) (n : ℕ) : Type 0 where
-  pub sized : length l ≡ shelf_size
-  pub few : n ≤ capacity
-  pub is : count_in l ≡ n
+-- the shelf whose entries are handed back with their count, or 10
+abbrev pub entries_of : Result Entries Refusal → Answer (List ℕ × ℕ)
+entries_of (Ok e) = accepted (e.bytes.now, e.count)
+entries_of (Err r) = refused (number_of r)
 
--- the bytes of the entry's place k
+-- the bytes of the entry's place k, and of its triples
 abbrev pub row_at : ℕ → List ℕ → List ℕ
 row_at k l = take entry_width (drop (entry_width * k) (drop 2 l))
 
--- ---- what is handed back
-
-abbrev pub count_of : Count → Answer ℕ
-count_of (Count.Entries n) = accepted n
-count_of Count.NotShelf = refused 10
-
-abbrev pub found_of : Found → Option ℕ
-found_of (Found.At k) = some k
-found_of Found.Nothing = none
+abbrev pub kept_at : ℕ → List ℕ → List ℕ
+kept_at k l = take kept_width (drop (kept_width * k) (drop kept_place l))
 
 abbrev pub part_of : Part → S.Part
 part_of p = record { place = p.place; length = p.length }
@@ -37,3 +34,8 @@ part_of p = record { place = p.place; length = p.length }
 -- where the text of the place k stands
 abbrev pub part_at : ℕ → List ℕ → Part
 part_at k l = record { place = 2 + entry_width * k + 4; length = length (text_in (row_at k l)) }
+
+-- the part code c is that of the first of n entries in the bytes l whose place passes the test p, or none passes
+abbrev pub IsFirst : (ℕ → Bool) → ℕ → List ℕ → Std.Option ℕ → Type 0
+IsFirst p n l (Std.Some c) = (k : ℕ) × (k < n) × (p k ≡ true) × ((j : ℕ) → j < k → p j ≡ false) × (c ≡ code_in (row_at k l))
+IsFirst p n l Std.None = (k : ℕ) → k < n → p k ≡ false

@@ -1,14 +1,13 @@
 -- Two normal texts that are compared: what the loop knows, a law for each way out, and that the answer tells whether the readings are equal.
 -- Assumes nothing.
-use Prim.Native.Nat.{ℕ, suc, ◌+◌, ◌-◌, ◌<◌, ◌≤◌}
+use Prim.Native.Nat.{ℕ, ◌≤◌}
 use mathlib.Core.Path.{◌≡◌, refl, sym, ap, ap₂, ◌∙◌}
 use mathlib.Core.Bool.{Bool, true, false, ◌&&◌}
 use mathlib.Core.List.{List, [], ◌∷◌}
 use native.Mathlib.Omega.{arith}
-use borrow.Author.Tests.{eq-eqb, ne_eqb}
 use lib.Dec.{eqb}
-use lib.ListN.{length, take, drop, get_or, length-drop}
-use lib.Seq.{drop-cons}
+use lib.Pointwise.{pointwise}
+use lib.ListN.{length, take}
 use Rattle.rules.specs.Expansion as E
 use Rattle.rules.specs.Expansion.{Compat}
 use Rattle.rules.specs.NormalText.{spell}
@@ -17,113 +16,57 @@ use Rattle.rules.specs.Equality.{same_bytes, Texts, texts_call, texts_equal, fir
 use Rattle.rules.proofs.NormalTextCall.{normal-accepts}
 use Rattle.rules.proofs.RoundTrip.{same-reading}
 use Rattle.rules.proofs.Equal.{same_bytes_lem}
-use Rattle.rangeset.specs.Views.{number_of}
-use Rattle.rangeset.specs.declared.Refusal.{Refusal}
+use Rattle.refusals.specs.Views.{number_of, answer_of}
+use Rattle.std.specs.Prelude.{Result, Ok, Err, nat_eq}
+use Rattle.refusals.specs.declared.Refusal.{Refusal}
 use Rattle.normal_text.specs.Views.{length_of}
-use Rattle.normal_text.specs.declared.NormalText.{NormalText}
-use Rattle.normal_text.specs.declared.NormalText.TheVariants as T
 use Rattle.normal_text.proofs.Calls.{Writes, written-call, refused-call}
-use Rattle.equality.specs.Views.{Fits, Checks, answer_of}
-use Rattle.equality.specs.declared.Equality.TheVariants as Equality
+use Rattle.equality.specs.Views.{Fits}
 use Rattle.equality.proofs.Fitting.{normal, part-within, part-is, part_length, call_fits}
-
--- ---- same_bytes
-
-same-lengths : (a b : List ℕ) → (length a ≡ length b → ⊥) → false ≡ same_bytes a b
-same-lengths [] [] z = absurd (z refl)
-same-lengths [] (d ∷ b) z = refl
-same-lengths (c ∷ a) [] z = refl
-same-lengths (c ∷ a) (d ∷ b) z = go (eqb c d) (same-lengths a b (λ e. z (omega arith)))
-  where
-    go : (x : Bool) → false ≡ same_bytes a b → false ≡ x && same_bytes a b
-    go true h = h
-    go false h = refl
-
--- the first i bytes are the same
-pub record Alike (a b : List ℕ) (i : ℕ) : Type 0 where
-  pub lengths : length a ≡ length b
-  pub within : i ≤ length a
-  pub rest : same_bytes a b ≡ same_bytes (drop i a) (drop i b)
-
-module _ (a b : List ℕ) where
-  pub alike-lengths : (length a ≡ length b → ⊥) → false ≡ same_bytes a b
-  alike-lengths z = same-lengths a b z
-
-  pub alike-start : length a ≡ length b → Alike a b 0
-  alike-start e = record { lengths = e; within = omega arith; rest = refl }
-
-  module _ (i : ℕ) (g : Alike a b i) where
-    pub alike-within : i < length a → i < length b
-    alike-within h = let e = g.lengths in omega arith
-
-    module _ (h : i < length a) where
-      heads : same_bytes a b ≡ (eqb (get_or a i 0) (get_or b i 0) && same_bytes (drop (i + 1) a) (drop (i + 1) b))
-      heads =
-          let e = g.lengths in
-          let k : suc i ≡ i + 1 = omega arith in
-          g.rest ∙ ap₂ same_bytes (drop-cons a i 0 h) (drop-cons b i 0 (omega arith))
-          ∙ ap (λ n. eqb (get_or a i 0) (get_or b i 0) && same_bytes (drop n a) (drop n b)) k
-
-      pub alike-apart : (get_or a i 0 ≡ get_or b i 0 → ⊥) → false ≡ same_bytes a b
-      alike-apart z = sym (heads ∙ ap (λ x. x && same_bytes (drop (i + 1) a) (drop (i + 1) b)) (ne_eqb (get_or a i 0) (get_or b i 0) z))
-
-      pub alike-more : get_or a i 0 ≡ get_or b i 0 → Alike a b (i + 1)
-      alike-more e =
-          record {
-            lengths = g.lengths;
-            within = omega arith;
-            rest = heads ∙ ap (λ x. x && same_bytes (drop (i + 1) a) (drop (i + 1) b)) (eq-eqb (get_or a i 0) (get_or b i 0) e);
-          }
-
-      pub alike-fewer : length a - (i + 1) < length a - i
-      alike-fewer = omega arith
-
-    pub alike_all : length a ≤ i → true ≡ same_bytes a b
-    alike_all h = let e = g.lengths in sym (g.rest ∙ ap₂ same_bytes (none a i h) (none b i (omega arith)))
-      where
-        none : (l : List ℕ) (i : ℕ) → length l ≤ i → drop i l ≡ []
-        none l i h = empty (drop i l) (length-drop i l ∙ omega arith)
-          where
-            empty : (l : List ℕ) → length l ≡ 0 → l ≡ []
-            empty [] e = refl
-            empty (c ∷ l) e = absurd (omega arith)
-
-pub ruleset likeness = (alike-lengths, alike-start, alike-within, alike-apart, alike-more, alike-fewer, alike_all)
 
 -- ---- compare
 
+-- what `==` answers at two slices
+pointwise-same : (w w' : List ℕ) → pointwise nat_eq w w' ≡ same_bytes w w'
+pointwise-same [] [] = refl
+pointwise-same [] (d ∷ w') = refl
+pointwise-same (c ∷ w) [] = refl
+pointwise-same (c ∷ w) (d ∷ w') = ap (λ b. eqb c d && b) (pointwise-same w w')
+
 module _ (m m' : Compat) (s t a a' b b' : List ℕ) (p : a' ≡ bytes_after (normal_text m s) a) (n : ℕ) (q : n ≡ (normal_text_outcome (normal_text m s)).length)
     (p' : b' ≡ bytes_after (normal_text m' t) b) (k : ℕ) (q' : k ≡ (normal_text_outcome (normal_text m' t)).length) where
-  pub compare-result : (r : Bool) → r ≡ same_bytes (take n a') (take k b') → Fits m s (length a) → Fits m' t (length b)
+  pub compare-result : (r : Bool) → r ≡ pointwise nat_eq (take n a') (take k b') → Fits m s (length a) → Fits m' t (length b)
       → r ≡ same_bytes (text_of (normal_text m s)) (text_of (normal_text m' t))
   compare-result r e f g =
-      e ∙ ap₂ same_bytes (part-is m s a a' p n q f ∙ ap text_of (sym (normal m s (length a) f))) (part-is m' t b b' p' k q' g ∙ ap text_of (sym (normal m' t (length b) g)))
+      e ∙ pointwise-same (take n a') (take k b') ∙ ap₂ same_bytes (part-is m s a a' p n q f ∙ ap text_of (sym (normal m s (length a) f))) (part-is m' t b b' p' k q' g ∙ ap text_of (sym (normal m' t (length b) g)))
 
 pub ruleset comparing = (part-within, part_length, compare-result)
 
--- ---- refusal_of
+-- ---- check_both
 
-module _ (m : Compat) (s : List ℕ) (lent : ℕ) (m' : Compat) (t : List ℕ) (lent' : ℕ) (r : NormalText)
+module _ (m : Compat) (s : List ℕ) (lent : ℕ) (m' : Compat) (t : List ℕ) (lent' : ℕ) (r : Result ℕ Refusal)
     (e : length_of r ≡ normal_text_outcome (normal_text_call m s lent)) where
-  pub first-refused : (y : Refusal) → r ≡ T.Refused y → Checks (texts_call m s lent m' t lent') r
+  pub first-refused : (y : Refusal) → r ≡ Err y → texts_call m s lent m' t lent' ≡ refused (number_of y)
   unfolding texts_call
-  first-refused y q = rw q (rw (texts_call, refused-call m s lent y (ap length_of (sym q) ∙ e)))
+  first-refused y q = rw (texts_call, refused-call m s lent y (ap length_of (sym q) ∙ e))
 
-  module _ (n : ℕ) (q : r ≡ T.Written n) (r' : NormalText) (e' : length_of r' ≡ normal_text_outcome (normal_text_call m' t lent')) where
+  module _ (n : ℕ) (q : r ≡ Ok n) (r' : Result ℕ Refusal) (e' : length_of r' ≡ normal_text_outcome (normal_text_call m' t lent')) where
     first-writes : Writes m s lent n
     first-writes = written-call m s lent n (ap length_of (sym q) ∙ e)
 
-    pub second-checked : Checks (texts_call m s lent m' t lent') r'
+    pub second-refused : (y : Refusal) → r' ≡ Err y → texts_call m s lent m' t lent' ≡ refused (number_of y)
     unfolding texts_call
-    second-checked = go r' e'
-      where
-        go : (r' : NormalText) → length_of r' ≡ normal_text_outcome (normal_text_call m' t lent') → Checks (texts_call m s lent m' t lent') r'
-        go (T.Refused y) i = rw (texts_call, first-writes.call, refused-call m' t lent' y i)
-        go (T.Written k) i =
-            let w = written-call m' t lent' k i in
-            (record { first = spell first-writes.reads; second = spell w.reads }, rw (texts_call, first-writes.call, w.call))
+    second-refused y q' = rw (texts_call, first-writes.call, refused-call m' t lent' y (ap length_of (sym q') ∙ e'))
 
-pub ruleset checking = (first-refused, second-checked)
+    pub second-accepted : (k : ℕ) → r' ≡ Ok k → (x : Texts) × (texts_call m s lent m' t lent' ≡ accepted x)
+    unfolding texts_call
+    second-accepted k q' =
+        let w = written-call m' t lent' k (ap length_of (sym q') ∙ e') in
+        (record { first = spell first-writes.reads; second = spell w.reads }, texts-are (spell first-writes.reads) (spell w.reads) first-writes.call w.call)
+      where
+        texts-are : (x y : List ℕ) → normal_text_call m s lent ≡ accepted x → normal_text_call m' t lent' ≡ accepted y
+            → texts_call m s lent m' t lent' ≡ accepted (record { first = x; second = y })
+        texts-are x y p q = rw (texts_call, p, q)
 
 -- ---- equal_readings
 
@@ -173,71 +116,59 @@ module _ (m : Compat) (s a : List ℕ) (m' : Compat) (t b : List ℕ) where
   abbrev call : Answer Texts
   call = texts_call m s (length a) m' t (length b)
 
-  module _ (r : NormalText) (k : Checks call r) where
-    module _ (y : Refusal) (q : r ≡ T.Refused y) where
-      refused-is : call ≡ refused (number_of y)
-      refused-is = rw q at k
+  module _ (y : Refusal) (refused-is : call ≡ refused (number_of y)) where
+    pub refused-result : answer_of {A = Bool} (Err y) ≡ texts_equal call
+    unfolding texts_equal
+    refused-result = ap texts_equal (sym refused-is)
 
-      pub refused-result : answer_of (Equality.Refused y) ≡ texts_equal call
+    pub refused-first : a ≡ first_after call a
+    unfolding first_after written
+    refused-first = ap (λ x. first_after x a) (sym refused-is)
+
+    pub refused-second : b ≡ second_after call b
+    unfolding second_after written
+    refused-second = ap (λ x. second_after x b) (sym refused-is)
+
+    pub refused-tells : Tells m s (length a) m' t (length b) (answer_of {A = Bool} (Err y))
+    refused-tells = tells m s (length a) m' t (length b) (answer_of {A = Bool} (Err y)) refused-result
+
+  module _ (x : (x : Texts) × (call ≡ accepted x)) where
+    both : Both m s (length a) m' t (length b)
+    both = both-fit m s (length a) m' t (length b) x.0 x.1
+
+    pub writes-first : Fits m s (length a)
+    writes-first = both.first
+
+    pub writes-second : Fits m' t (length b)
+    writes-second = both.second
+
+    abbrev texts : Texts
+    texts = record { first = spell both.first.reads; second = spell both.second.reads }
+
+    accepted-is : call ≡ accepted texts
+    accepted-is =
+        texts-accepted m s (length a) m' t (length b) both.first.reads both.second.reads both.first.is both.second.is both.first.room both.second.room
+
+    pub written-first : (a' : List ℕ) → a' ≡ bytes_after (normal_text m s) a → a' ≡ first_after call a
+    unfolding bytes_after first_after written
+    written-first a' e = e ∙ ap (λ x. bytes_after x a) (normal m s (length a) both.first) ∙ ap (λ x. first_after x a) (sym accepted-is)
+
+    pub written-second : (b' : List ℕ) → b' ≡ bytes_after (normal_text m' t) b → b' ≡ second_after call b
+    unfolding bytes_after second_after written
+    written-second b' e = e ∙ ap (λ x. bytes_after x b) (normal m' t (length b) both.second) ∙ ap (λ x. second_after x b) (sym accepted-is)
+
+    module _ (z : Bool) (e : z ≡ same_bytes (text_of (normal_text m s)) (text_of (normal_text m' t))) where
+      answer-is : accepted z ≡ texts_equal call
       unfolding texts_equal
-      refused-result = ap texts_equal (sym refused-is)
+      answer-is =
+          ap accepted (e ∙ ap₂ (λ v w. same_bytes (text_of v) (text_of w)) (normal m s (length a) both.first) (normal m' t (length b) both.second))
+          ∙ ap texts_equal (sym accepted-is)
 
-      pub refused-first : a ≡ first_after call a
-      unfolding first_after written
-      refused-first = ap (λ x. first_after x a) (sym refused-is)
+      pub equal-result : answer_of (Ok z) ≡ texts_equal call
+      equal-result = answer-is
 
-      pub refused-second : b ≡ second_after call b
-      unfolding second_after written
-      refused-second = ap (λ x. second_after x b) (sym refused-is)
-
-      pub refused-tells : Tells m s (length a) m' t (length b) (answer_of (Equality.Refused y))
-      refused-tells = tells m s (length a) m' t (length b) (answer_of (Equality.Refused y)) refused-result
-
-    module _ (n : ℕ) (q : r ≡ T.Written n) where
-      both : Both m s (length a) m' t (length b)
-      both = let x : (x : Texts) × (call ≡ accepted x) = rw q at k in both-fit m s (length a) m' t (length b) x.0 x.1
-
-      pub writes-first : Fits m s (length a)
-      writes-first = both.first
-
-      pub writes-second : Fits m' t (length b)
-      writes-second = both.second
-
-      abbrev texts : Texts
-      texts = record { first = spell both.first.reads; second = spell both.second.reads }
-
-      accepted-is : call ≡ accepted texts
-      accepted-is =
-          texts-accepted m s (length a) m' t (length b) both.first.reads both.second.reads both.first.is both.second.is both.first.room both.second.room
-
-      pub written-first : (a' : List ℕ) → a' ≡ bytes_after (normal_text m s) a → a' ≡ first_after call a
-      unfolding bytes_after first_after written
-      written-first a' e = e ∙ ap (λ x. bytes_after x a) (normal m s (length a) both.first) ∙ ap (λ x. first_after x a) (sym accepted-is)
-
-      pub written-second : (b' : List ℕ) → b' ≡ bytes_after (normal_text m' t) b → b' ≡ second_after call b
-      unfolding bytes_after second_after written
-      written-second b' e = e ∙ ap (λ x. bytes_after x b) (normal m' t (length b) both.second) ∙ ap (λ x. second_after x b) (sym accepted-is)
-
-      module _ (z : Bool) (e : z ≡ same_bytes (text_of (normal_text m s)) (text_of (normal_text m' t))) where
-        answer-is : accepted z ≡ texts_equal call
-        unfolding texts_equal
-        answer-is =
-            ap accepted (e ∙ ap₂ (λ v w. same_bytes (text_of v) (text_of w)) (normal m s (length a) both.first) (normal m' t (length b) both.second))
-            ∙ ap texts_equal (sym accepted-is)
-
-        pub equal-result : z ≡ true → answer_of Equality.Equal ≡ texts_equal call
-        equal-result p = ap accepted (sym p) ∙ answer-is
-
-        pub equal-tells : z ≡ true → Tells m s (length a) m' t (length b) (answer_of Equality.Equal)
-        equal-tells p = tells m s (length a) m' t (length b) (answer_of Equality.Equal) (equal-result p)
-
-        pub different-result : z ≡ false → answer_of Equality.Different ≡ texts_equal call
-        different-result p = ap accepted (sym p) ∙ answer-is
-
-        pub different-tells : z ≡ false → Tells m s (length a) m' t (length b) (answer_of Equality.Different)
-        different-tells p = tells m s (length a) m' t (length b) (answer_of Equality.Different) (different-result p)
-
-pub ruleset refused-ways = (refused-result, refused-first, refused-second, refused-tells)
+      pub equal-tells : Tells m s (length a) m' t (length b) (answer_of (Ok z))
+      equal-tells = tells m s (length a) m' t (length b) (answer_of (Ok z)) equal-result
 
 pub ruleset written-ways =
-    (writes-first, writes-second, written-first, written-second, equal-result, equal-tells, different-result, different-tells)
+    (written-first, written-second, equal-result, equal-tells)

@@ -1,7 +1,7 @@
 -- A text whose normal text fits: what the normal text call writes, and what the part is that is then read.
 -- Assumes nothing.
 use Prim.Native.Nat.{ℕ, ◌≤◌}
-use mathlib.Core.Path.{◌≡◌, sym, ap, ap₂, ◌∙◌}
+use mathlib.Core.Path.{◌≡◌, refl, sym, ap, ap₂, ◌∙◌}
 use mathlib.Core.List.{List, ◌++◌}
 use native.Mathlib.Omega.{arith}
 use lib.ListN.{length, take, drop, length-append}
@@ -11,10 +11,9 @@ use Rattle.rules.specs.NormalText.{spell}
 use Rattle.rules.specs.Answers.{accepted, normal_text, normal_text_call, normal_text_outcome, written, bytes_after}
 use Rattle.rules.proofs.NormalTextCall.{normal_text-accepted, normal-accepts}
 use Rattle.rangeset.proofs.Outcomes.{refusal-number}
-use Rattle.rangeset.specs.declared.Refusal.{Refusal}
+use Rattle.std.specs.Prelude.{Result, Ok, Err, IsOk}
+use Rattle.refusals.specs.declared.Refusal.{Refusal}
 use Rattle.normal_text.specs.Views.{length_of}
-use Rattle.normal_text.specs.declared.NormalText.{NormalText}
-use Rattle.normal_text.specs.declared.NormalText.TheVariants as T
 use Rattle.normal_text.proofs.Calls.{written-call}
 use Rattle.equality.specs.Views.{Fits}
 
@@ -27,20 +26,23 @@ module _ (m : Compat) (s : List ℕ) (lent : ℕ) (f : Fits m s lent) where
   pub fitting : normal_text_call m s lent ≡ normal_text m s
   fitting = normal-accepts m s lent f.reads f.is f.room ∙ sym normal
 
-  module _ (r : NormalText) (e : length_of r ≡ normal_text_outcome (normal_text_call m s lent)) where
-    pub write-length : (n : ℕ) → r ≡ T.Written n → n ≡ (normal_text_outcome (normal_text m s)).length
+  module _ (r : Result ℕ Refusal) (e : length_of r ≡ normal_text_outcome (normal_text_call m s lent)) where
+    pub write-length : (n : ℕ) → r ≡ Ok n → n ≡ (normal_text_outcome (normal_text m s)).length
     write-length n q = ap (λ x. x.length) (ap length_of (sym q) ∙ e ∙ ap normal_text_outcome fitting)
 
-    pub write-refused : (y : Refusal) → r ≡ T.Refused y → 0 ≡ (normal_text_outcome (normal_text m s)).length
+    pub write-ok : IsOk r
     unfolding normal_text_outcome
-    write-refused y q =
-        absurd (refusal-number y (ap (λ x. x.refusal) (ap length_of (sym q) ∙ e ∙ ap normal_text_outcome (fitting ∙ normal))))
+    write-ok = go r e
+      where
+        go : (r : Result ℕ Refusal) → length_of r ≡ normal_text_outcome (normal_text_call m s lent) → IsOk r
+        go (Ok n) e = refl
+        go (Err y) e = absurd (refusal-number y (ap (λ x. x.refusal) (e ∙ ap normal_text_outcome (fitting ∙ normal))))
 
 pub write_bytes : (m : Compat) (s out : List ℕ) → Fits m s (length out) → (out' : List ℕ) → out' ≡ bytes_after (normal_text_call m s (length out)) out
     → out' ≡ bytes_after (normal_text m s) out
 write_bytes m s out f out' p = p ∙ ap (λ a. bytes_after a out) (fitting m s (length out) f)
 
-pub ruleset writing = (write-length, write-refused, write_bytes)
+pub ruleset writing = (write-length, write-ok, write_bytes)
 
 -- ---- the part of the lent bytes that was written
 

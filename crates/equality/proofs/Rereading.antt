@@ -2,11 +2,8 @@
 -- Assumes nothing.
 use Prim.Native.Nat.{ℕ, ◌/◌, ◌<◌, ◌≤◌}
 use mathlib.Core.Path.{◌≡◌, refl, sym, ap, ap₂, ◌∙◌}
-use mathlib.Core.Bool.{Bool, true, false}
 use mathlib.Core.List.{List}
 use native.Mathlib.Omega.{arith}
-use borrow.Author.Tests.{leb-true, leb-false}
-use lib.Dec.{leb}
 use lib.ListN.{length, take}
 use Rattle.rules.specs.Expansion as E
 use Rattle.rules.specs.Expansion.{Compat}
@@ -16,23 +13,21 @@ use Rattle.rules.specs.Answers.{Answer, accepted, refused, longest, reading, com
 use Rattle.rules.specs.Equality.{Reread, reread, text_refused, normal_refused, read_again, then_read, reread_call, neither, the_text, its_normal_text, reread_outcome, reread_bytes_after, reread_comparators_after, reread_identifiers_after, Restores}
 use Rattle.rules.proofs.RoundTrip.{round_trip}
 use Rattle.rules.proofs.ReadingCall.{reading-1, call-refused, call-5, call-6, call-accepts}
-use Rattle.rules.proofs.NormalTextCall.{normal-refused, normal-7, normal-accepts}
+use Rattle.rules.proofs.NormalTextCall.{normal-refused, normal-accepts}
 use Rattle.rules.proofs.Equal.{placeless-comparators, placeless-identifiers, same-counts}
 use Rattle.rules.proofs.HandedBack.{start, handed-rows}
-use Rattle.rangeset.specs.Views.{number_of, outcome_of}
+use Rattle.refusals.specs.Views.{number_of}
+use Rattle.rangeset.specs.Views.{outcome_of}
 use Rattle.rangeset.specs.declared.Counts.{Counts}
-use Rattle.rangeset.specs.declared.Refusal.{Refusal}
-use Rattle.rangeset.specs.declared.Refusal.TheVariants as Refusals
-use Rattle.rangeset.specs.declared.Reading.{Reading}
-use Rattle.rangeset.specs.declared.Reading.TheVariants as R
+use Rattle.std.specs.Prelude.{Result, Ok, Err}
+use Rattle.refusals.specs.declared.Refusal.{Refusal}
+use Rattle.refusals.specs.declared.Refusal.TheVariants as Refusals
 use Rattle.rangeset.proofs.Outcomes.{Counted, counted-reading, refused-reading}
 use Rattle.normal_text.specs.Views.{length_of}
-use Rattle.normal_text.specs.declared.NormalText.{NormalText}
-use Rattle.normal_text.specs.declared.NormalText.TheVariants as T
 use Rattle.normal_text.proofs.Calls.{Writes, written-call, refused-call}
 use Rattle.equality.specs.Views.{Fits, counts_of, reread_of, Decides}
-use Rattle.equality.specs.declared.Reread as C
-use Rattle.equality.specs.declared.Reread.TheVariants as W
+use Rattle.equality.specs.declared.RereadError.{RereadError}
+use Rattle.equality.specs.declared.RereadError.TheVariants as W
 use Rattle.equality.proofs.Fitting.{fitting, part-within, part-is, part_length, call_fits}
 
 -- ---- the call by its parts
@@ -81,30 +76,23 @@ module _ (m m' : Compat) (s : List ℕ) (lent cw iw : ℕ) where
 -- ---- decide_space
 
 module _ (m : Compat) (s : List ℕ) (lent cw iw : ℕ) (y : Refusal) where
-  refuses-text : normal_text_call m s lent ≡ refused (number_of y) → Decides m s lent cw iw (reread_of (W.TextRefused y))
+  refuses-text : normal_text_call m s lent ≡ refused (number_of y) → Decides m s lent cw iw (reread_of (Err (W.Text y)))
   unfolding reread_outcome reading_outcome
   refuses-text e = record { is = λ m'. sym (ap reread_outcome (text-refused m m' s lent cw iw (number_of y) e)) }
 
-  refuses-normal : ((m' : Compat) → reread_call m m' s lent cw iw ≡ normal_refused (number_of y)) → Decides m s lent cw iw (reread_of (W.NormalRefused y))
+  refuses-normal : ((m' : Compat) → reread_call m m' s lent cw iw ≡ normal_refused (number_of y)) → Decides m s lent cw iw (reread_of (Err (W.NormalText y)))
   unfolding reread_outcome reading_outcome
   refuses-normal h = record { is = λ m'. sym (ap reread_outcome (h m')) }
 
-module _ (m : Compat) (s : List ℕ) (lent cw iw : ℕ) (c : Counts) (e : counts_of c ≡ reading_outcome (reading m s)) (r : NormalText)
+module _ (m : Compat) (s : List ℕ) (lent cw iw : ℕ) (c : Counts) (e : counts_of c ≡ reading_outcome (reading m s)) (r : Result ℕ Refusal)
     (i : length_of r ≡ normal_text_outcome (normal_text_call m s lent)) where
   abbrev has : Counted m s c
   has = counted-reading m s c e
 
-  pub space-7 : (y : Refusal) → r ≡ T.Refused y → Decides m s lent cw iw (reread_of (W.TextRefused Refusals.BytesShort))
-  space-7 y q = refuses-text m s lent cw iw Refusals.BytesShort (go (leb (length (spell has.reads)) lent) refl)
-    where
-      go : (b : Bool) → leb (length (spell has.reads)) lent ≡ b → normal_text_call m s lent ≡ refused 7
-      go false h = normal-7 m s lent has.reads has.is (leb-false _ _ h)
-      go true h =
-          let a = normal-accepts m s lent has.reads has.is (leb-true _ _ h) in
-          let b = refused-call m s lent y (ap length_of (sym q) ∙ i) in
-          let z : ◌≡◌ {A = ℕ} 0 1 = cc in absurd (omega arith)
+  pub space-refused : (y : Refusal) → r ≡ Err y → Decides m s lent cw iw (reread_of (Err (W.Text y)))
+  space-refused y q = refuses-text m s lent cw iw y (refused-call m s lent y (ap length_of (sym q) ∙ i))
 
-  module _ (n : ℕ) (q : r ≡ T.Written n) where
+  module _ (n : ℕ) (q : r ≡ Ok n) where
     abbrev writes : Writes m s lent n
     writes = written-call m s lent n (ap length_of (sym q) ∙ i)
 
@@ -120,7 +108,7 @@ module _ (m : Compat) (s : List ℕ) (lent cw iw : ℕ) (c : Counts) (e : counts
     identifiers : c.identifiers ≡ identifier_rows reads
     identifiers = has.identifiers ∙ ap identifier_rows same
 
-    pub space-1 : longest < n → Decides m s lent cw iw (reread_of (W.NormalRefused Refusals.TooLong))
+    pub space-1 : longest < n → Decides m s lent cw iw (reread_of (Err (W.NormalText Refusals.TooLong)))
     space-1 l =
         refuses-normal m s lent cw iw Refusals.TooLong (λ m'. reread-long m m' s lent cw iw reads writes.is writes.room (rw writes.size at l))
 
@@ -128,18 +116,18 @@ module _ (m : Compat) (s : List ℕ) (lent cw iw : ℕ) (c : Counts) (e : counts
       short : length (spell reads) ≤ longest
       short = rw writes.size at l
 
-      pub space-5 : cw / comparator_width < c.comparators → Decides m s lent cw iw (reread_of (W.NormalRefused Refusals.ComparatorsShort))
+      pub space-5 : cw / comparator_width < c.comparators → Decides m s lent cw iw (reread_of (Err (W.NormalText Refusals.ComparatorsShort)))
       space-5 k =
           refuses-normal m s lent cw iw Refusals.ComparatorsShort
           (λ m'. reread-5 m m' s lent cw iw reads writes.is writes.room short (rw comparators at k))
 
       module _ (k : c.comparators ≤ cw / comparator_width) where
-        pub space-6 : iw / 3 < c.identifiers → Decides m s lent cw iw (reread_of (W.NormalRefused Refusals.IdentifiersShort))
+        pub space-6 : iw / 3 < c.identifiers → Decides m s lent cw iw (reread_of (Err (W.NormalText Refusals.IdentifiersShort)))
         space-6 j =
             refuses-normal m s lent cw iw Refusals.IdentifiersShort
             (λ m'. reread-6 m m' s lent cw iw reads writes.is writes.room short (rw comparators at k) (rw identifiers at j))
 
-        pub space-whole : c.identifiers ≤ iw / 3 → Decides m s lent cw iw (reread_of (W.Accepted c))
+        pub space-whole : c.identifiers ≤ iw / 3 → Decides m s lent cw iw (reread_of (Ok c))
         unfolding reread_outcome
         space-whole j =
             record {
@@ -150,15 +138,15 @@ module _ (m : Compat) (s : List ℕ) (lent cw iw : ℕ) (c : Counts) (e : counts
                   ∙ sym (ap reread_outcome (reread-accepts m m' s lent cw iw reads writes.is writes.room short (rw comparators at k) (rw identifiers at j)));
             }
 
-pub ruleset spaces = (space-7, space-1, space-5, space-6, space-whole)
+pub ruleset spaces = (space-refused, space-1, space-5, space-6, space-whole)
 
 -- ---- decide
 
-module _ (m : Compat) (s : List ℕ) (r : Reading) (e : outcome_of r ≡ reading_outcome (reading m s)) where
-  pub decide-counts : (c : Counts) → r ≡ R.Accepted c → counts_of c ≡ reading_outcome (reading m s)
+module _ (m : Compat) (s : List ℕ) (r : Result Counts Refusal) (e : outcome_of r ≡ reading_outcome (reading m s)) where
+  pub decide-counts : (c : Counts) → r ≡ Ok c → counts_of c ≡ reading_outcome (reading m s)
   decide-counts c q = ap outcome_of (sym q) ∙ e
 
-  pub decide-refused : (y : Refusal) → r ≡ R.Refused y → (lent cw iw : ℕ) → Decides m s lent cw iw (reread_of (W.TextRefused y))
+  pub decide-refused : (y : Refusal) → r ≡ Err y → (lent cw iw : ℕ) → Decides m s lent cw iw (reread_of (Err (W.Text y)))
   decide-refused y q lent cw iw =
       refuses-text m s lent cw iw y (normal-refused m s lent (number_of y) (refused-reading m s y (ap outcome_of (sym q) ∙ e)))
 
@@ -188,11 +176,15 @@ record Rereads (m m' : Compat) (s : List ℕ) (lent cw iw : ℕ) : Type 0 where
   pub reads : reading_call m' text cw iw ≡ accepted reading
   pub whole : reread_call m m' s lent cw iw ≡ reread m' text reading
 
-pub text-apart : the_text ≡ neither → ⊥
+text-apart : the_text ≡ neither → ⊥
 text-apart z = let y : ◌≡◌ {A = ℕ} 0 1 = cc in omega arith
 
-pub normal-apart : its_normal_text ≡ neither → ⊥
+normal-apart : its_normal_text ≡ neither → ⊥
 normal-apart z = let y : ◌≡◌ {A = ℕ} 0 1 = cc in omega arith
+
+error-apart : (y : RereadError) → (reread_of (Err y)).refuses ≡ neither → ⊥
+error-apart (W.Text y) z = text-apart z
+error-apart (W.NormalText y) z = normal-apart z
 
 rereads : (m m' : Compat) (s : List ℕ) (lent cw iw : ℕ) → (reread_outcome (reread_call m m' s lent cw iw)).refuses ≡ neither → Rereads m m' s lent cw iw
 unfolding reread_outcome
@@ -206,7 +198,7 @@ rereads m m' s lent cw iw z = go (normal_text_call m s lent) refl
     go (accepted w) e = read w e (reading_call m' w cw iw) refl
     go (refused n) e = absurd (text-apart (sym (ap (λ a. (reread_outcome a).refuses) (text-refused m m' s lent cw iw n e)) ∙ z))
 
-module _ (m : Compat) (s out words ids : List ℕ) (r : C.Reread) (d : Decides m s (length out) (length words) (length ids) (reread_of r)) where
+module _ (m : Compat) (s out words ids : List ℕ) (r : Result Counts RereadError) (d : Decides m s (length out) (length words) (length ids) (reread_of r)) where
   abbrev call : Compat → Reread
   call m' = reread_call m m' s (length out) (length words) (length ids)
 
@@ -220,8 +212,8 @@ module _ (m : Compat) (s out words ids : List ℕ) (r : C.Reread) (d : Decides m
       rw (ap (λ x. x.outcome) (reread-result m'), f, g, h) (restored m m' s out words ids (call m') refl)
 
   -- a refused call, of either text, leaves all as it was
-  module _ (x : C.Reread) (q : r ≡ x) (z : (reread_of x).refuses ≡ neither → ⊥) where
-    pub refused-result : (m' : Compat) → reread_of x ≡ reread_outcome (call m')
+  module _ (y : RereadError) (q : r ≡ Err y) where
+    pub refused-result : (m' : Compat) → reread_of (Err y) ≡ reread_outcome (call m')
     refused-result m' = ap reread_of (sym q) ∙ reread-result m'
 
     untouched : (m' : Compat)
@@ -231,7 +223,7 @@ module _ (m : Compat) (s out words ids : List ℕ) (r : C.Reread) (d : Decides m
       where
         go : (a : Reread) → call m' ≡ a
             → (out ≡ reread_bytes_after (call m') out) × (words ≡ reread_comparators_after (call m') words) × (ids ≡ reread_identifiers_after (call m') ids)
-        go (reread m'' w rs) e = absurd (z (ap (λ o. o.refuses) (refused-result m' ∙ ap reread_outcome e)))
+        go (reread m'' w rs) e = absurd (error-apart y (ap (λ o. o.refuses) (refused-result m' ∙ ap reread_outcome e)))
         go (text_refused n) e = rw e (refl, refl, refl)
         go (normal_refused n) e = rw e (refl, refl, refl)
 
@@ -244,15 +236,15 @@ module _ (m : Compat) (s out words ids : List ℕ) (r : C.Reread) (d : Decides m
     pub refused-ids : (m' : Compat) → ids ≡ reread_identifiers_after (call m') ids
     refused-ids m' = (untouched m').2
 
-    pub refused-equal : Restores m s (length out) (length words) (length ids) (reread_of x).outcome out words ids
+    pub refused-equal : Restores m s (length out) (length words) (length ids) (reread_of (Err y)).outcome out words ids
     refused-equal = rw q at (handed m out words ids (untouched m).0 (untouched m).1 (untouched m).2)
 
   -- what an accepted call has written
-  module _ (c : Counts) (q : r ≡ W.Accepted c) where
+  module _ (c : Counts) (q : r ≡ Ok c) where
     has_all : (m' : Compat) → Rereads m m' s (length out) (length words) (length ids)
     has_all m' = rereads m m' s (length out) (length words) (length ids) (sym (ap (λ x. x.refuses) (ap reread_of (sym q) ∙ reread-result m')))
 
-    pub reads-result : (m' : Compat) → reread_of (W.Accepted c) ≡ reread_outcome (call m')
+    pub reads-result : (m' : Compat) → reread_of (Ok c) ≡ reread_outcome (call m')
     reads-result m' = ap reread_of (sym q) ∙ reread-result m'
 
     pub writes-fits : Fits m s (length out)
@@ -294,9 +286,7 @@ module _ (m : Compat) (s out words ids : List ℕ) (r : C.Reread) (d : Decides m
         reads-ids ids' h = h ∙ ap₂ (λ t a. identifier_words_after t a ids) text-is read_is ∙ ap (λ a. reread_identifiers_after a ids) (sym (has_all m').whole)
 
         pub reads-equal : (words' : List ℕ) → words' ≡ comparator_words_after m' (take n out') read-call words → (ids' : List ℕ) → ids' ≡ identifier_words_after (take n out') read-call ids
-            → Restores m s (length out) (length words) (length ids) (reread_of (W.Accepted c)).outcome out' words' ids'
+            → Restores m s (length out) (length words) (length ids) (reread_of (Ok c)).outcome out' words' ids'
         reads-equal words' h ids' j = rw q at (handed m' out' words' ids' writes_bytes (reads-words words' h) (reads-ids ids' j))
-
-pub ruleset refusing = (refused-result, refused-bytes, refused-words, refused-ids, refused-equal, text-apart, normal-apart)
 
 pub ruleset rereading = (reads-result, writes-fits, prefix-within, prefix-length, writes_bytes, reads-words, reads-ids, reads-equal)

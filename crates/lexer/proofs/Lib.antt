@@ -1,5 +1,5 @@
-pub mod Classes
-pub mod Scan
+pub mod Opened
 pub mod Numbers
-pub mod Counting
-pub mod IdentifierLaws
+pub mod FirstBytes
+pub mod Series
+pub mod Literals

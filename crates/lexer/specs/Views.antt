@@ -1,60 +1,103 @@
--- What the code hands back of a reading: a number as 64 bits hold it, and a rest by how many bytes it has.
+-- What the code hands back of a reading: a number as 64 bits hold it, and what is left.
 -- Assumes nothing.
-use Rattle.std.specs.Prelude.{ℕ, ◌+◌, ◌*◌, ◌-◌, List, Bool, true, false, not, leb, length, take, drop}
-use Rattle.rules.specs.Bytes.{is_digit, value, value_from, largest, pick}
+use Rattle.std.specs.Prelude.{ℕ, ◌+◌, ◌*◌, ◌-◌, List, ◌∷◌, Bool, leb, length, take, drop, Option, Some, None}
+use Rattle.std.specs.Borrow.{Bor}
+use Rattle.rules.specs.Bytes.{is_digit, is_sign, value, largest, pick}
 use Rattle.rules.specs.Syntax as S
-use Rattle.rules.specs.Parse.{Result, fail, ok, count, literal}
+use Rattle.rules.specs.Parse.{Result, fail, ok, ◌then◌, all, one_of, count, read_identifier, found_in}
 use Rattle.lexer.specs.declared.Number.{Number}
-use Rattle.lexer.specs.declared.Sum.{Sum}
+use Rattle.rules.specs.Version.{read_after_dot}
+use Rattle.rules.proofs.Results.{Gives}
+use Rattle.rules.proofs.Left.{Behind}
 use Rattle.lexer.specs.declared.Identifier.{Identifier}
 use Rattle.lexer.specs.declared.Identifiers.{Identifiers}
+use Rattle.lexer.specs.declared.Qualifier.{Qualifier}
 
 -- what is left behind the bytes of a class
 abbrev pub rest : (ℕ → Bool) → List ℕ → List ℕ
 rest p s = drop (count p s) s
 
+-- what is left, if anything was read
+abbrev pub rest_of : {A : Type 0} → Result A → Option (List ℕ)
+rest_of fail = None
+rest_of (ok a r) = Some r
+
+abbrev pub rest_in : Option (Bor (List ℕ)) → Option (List ℕ)
+rest_in None = None
+rest_in (Some t) = Some t.now
+
 -- ---- numbers
 
--- the code's number: a value above the largest is given as the largest, and marked
-abbrev pub saturated : ℕ → ℕ
-saturated v = pick (leb v largest) v largest
+-- a value, where 64 bits hold it
+abbrev pub fitting : ℕ → Option ℕ
+fitting v = pick (leb v largest) (Some v) None
 
-abbrev pub too_large : ℕ → Bool
-too_large v = not (leb v largest)
+abbrev pub number_of : Result (List ℕ) → Result (Option ℕ)
+number_of fail = fail
+number_of (ok w r) = ok (fitting (value w)) r
 
-abbrev pub number_from : ℕ → ℕ → Number
-number_from v left = record { value = saturated v; large = too_large v; left = left }
+abbrev pub number_in : Option Number → Result (Option ℕ)
+number_in None = fail
+number_in (Some n) = ok n.value n.left.now
 
-unfoldable pub number_of : List ℕ → Result (List ℕ) → Number
-number_of s fail = record { value = 0; large = false; left = length s }
-number_of s (ok w r) = number_from (value w) (length r)
-
--- the digits that s begins with, behind digits of the value v
-unfoldable pub digits_after : ℕ → List ℕ → Number
-digits_after v s = number_from (value_from v (take (count is_digit s) s)) (length (rest is_digit s))
+-- the value of the digits that s begins with
+abbrev pub digits_value : List ℕ → Option ℕ
+digits_value s = fitting (value (take (count is_digit s) s))
 
 -- one digit more
-unfoldable pub pushed : ℕ → ℕ → Sum
-pushed v c = record { value = saturated (v * 10 + (c - 48)); large = too_large (v * 10 + (c - 48)) }
-
--- ---- fixed bytes
-
-abbrev pub succeeds : {A : Type 0} → Result A → Bool
-succeeds fail = false
-succeeds (ok a r) = true
-
--- s begins with these bytes
-unfoldable pub starts_with : List ℕ → List ℕ → Bool
-starts_with w s = succeeds (literal w s)
+abbrev pub pushed : Option ℕ → ℕ → Option ℕ
+pushed None c = None
+pushed (Some v) c = fitting (v * 10 + (c - 48))
 
 -- ---- identifiers
 
-unfoldable pub identifier_of : List ℕ → Result S.Identifier → Identifier
-identifier_of s fail = record { number = false; value = 0; left = length s }
-identifier_of s (ok (S.number v) r) = record { number = true; value = v; left = length r }
-identifier_of s (ok (S.text l w) r) = record { number = false; value = 0; left = length r }
+-- the bytes of s before what is left of it
+abbrev pub before : List ℕ → List ℕ → List ℕ
+before s r = take (length s - length r) s
 
--- how many there are, and what is left behind them
-unfoldable pub identifiers_of : {A : Type 0} → List ℕ → Result (List A) → Identifiers
-identifiers_of s fail = record { count = 0; left = length s }
-identifiers_of s (ok l r) = record { count = length l; left = length r }
+-- a text keeps its place in the rules: how many bytes are left where it begins
+abbrev pub identifier_is : Identifier → List ℕ → S.Identifier
+identifier_is (Identifier.Number v) r = S.number v
+identifier_is (Identifier.Text w) r = S.text (length w.now + length r) w.now
+
+abbrev pub identifier_in : Option (Identifier × Bor (List ℕ)) → Result S.Identifier
+identifier_in None = fail
+identifier_in (Some x) = ok (identifier_is x.0 x.1.now) x.1.now
+
+-- ---- identifiers with dots between
+
+-- a reader takes a byte at least
+abbrev pub Takes : {A : Type 0} → (List ℕ → Result A) → Type 0
+Takes f = (s : List ℕ) → Gives (λ a. Behind 1 s) (f s)
+
+unfoldable pub read_series : {A : Type 0} → (List ℕ → Result A) → List ℕ → Result (List A)
+read_series f s = f s then λ a t. all (read_after_dot f) t then λ l r. ok (a ∷ l) r
+
+-- a sign, and the identifiers of a range
+unfoldable pub read_signed : List ℕ → Result (List S.Identifier)
+unfolding read_series
+read_signed s = one_of is_sign s then λ c t. read_series read_identifier t
+
+-- how many there are
+abbrev pub counted : {A : Type 0} → Result (List A) → Result ℕ
+counted fail = fail
+counted (ok l r) = ok (length l) r
+
+abbrev pub identifiers_is : Identifiers → Result ℕ
+identifiers_is i = ok i.count i.left.now
+
+abbrev pub identifiers_in : Option Identifiers → Result ℕ
+identifiers_in None = fail
+identifiers_in (Some i) = identifiers_is i
+
+-- how many identifiers a qualifier has, and which they are
+abbrev pub qualifier_of : Result (List S.Identifier) → Result (ℕ × List S.Identifier)
+qualifier_of fail = fail
+qualifier_of (ok l r) = ok (length l, l) r
+
+abbrev pub qualifier_is : Qualifier → Result (ℕ × List S.Identifier)
+qualifier_is q = ok (q.count, found_in q.identifiers.now) q.left.now
+
+abbrev pub qualifier_in : Option Qualifier → Result (ℕ × List S.Identifier)
+qualifier_in None = fail
+qualifier_in (Some q) = qualifier_is q

@@ -1,434 +1,365 @@
 // Bytes, spaces, numbers and identifiers: what src/generated.rs of the crate reads. Each reader is given the part of the text from its
-// place on, and answers how many bytes are left behind what it read: all of them where it read nothing.
+// place on, and hands back what is left behind what it read, or nothing where it read nothing.
 #![tactic(auto)]
 
-ghost use Rattle.std.specs.Prelude.{◌≡◌, ◌+◌, ◌-◌, ◌≤◌, true, length};
-ghost use Rattle.rules.specs.Bytes.{is_space, is_digit, is_letter, is_word, is_wild, is_sign, within};
-ghost use Rattle.rules.specs.Parse.{all, skip, left_of, read_number, read_identifier, read_dot_identifier, read_identifiers, read_qualifier};
-ghost use Rattle.lexer.specs.Views.{rest, starts_with, pushed, digits_after, number_of, identifier_of, identifiers_of};
+ghost use Rattle.std.specs.Prelude.{◌≡◌, ◌+◌, ◌<◌, ◌≤◌, ℕ, Bool, List, true, length, IfSome};
+ghost use Rattle.rules.specs.Bytes.{bytes, is_space, is_digit, is_letter, is_word, is_wild, is_sign};
+ghost use Rattle.rules.specs.Syntax.{Identifier};
+ghost use Rattle.rules.specs.Parse.{Result, count, skip, all, literal, read_number, read_identifier, read_qualifier};
+ghost use Rattle.rules.specs.Version.{read_after_dot};
+ghost use Rattle.rules.proofs.Left.{identifier-behind};
+ghost use Rattle.lexer.specs.Views.{rest, rest_in, rest_of, number_in, number_of, pushed, digits_value, before, identifier_in, Takes, counted, identifiers_is, identifiers_in, read_series, read_signed, qualifier_is, qualifier_in, qualifier_of};
 
 // ---- classes of bytes
 
 pub fn is_space(b: u8) -> bool
     ensures { result ≡ is_space b }
 {
-    (b == b' ') | (b == b'\t')
+    matches!(b, b' ' | b'\t')
 }
 
-pub fn is_digit(b: u8) -> bool
-    ensures { result ≡ is_digit b }
-{
-    match b {
-        b'0'..=b'9' => true,
-        _ => false,
-    }
-}
-
-fn is_lower(b: u8) -> bool
-    ensures { result ≡ within 97 122 b }
-{
-    match b {
-        b'a'..=b'z' => true,
-        _ => false,
-    }
-}
-
-fn is_upper(b: u8) -> bool
-    ensures { result ≡ within 65 90 b }
-{
-    match b {
-        b'A'..=b'Z' => true,
-        _ => false,
-    }
-}
-
-// A letter or `-`.
+#[tactic(auto, unfolding(rules::specs::Bytes::is_letter))]
 pub fn is_letter(b: u8) -> bool
     ensures { result ≡ is_letter b }
 {
-    is_lower(b) | is_upper(b) | (b == b'-')
-}
-
-// A letter, a digit or `-`; most are small letters.
-pub fn is_word(b: u8) -> bool
-    ensures { result ≡ is_word b }
-{
-    if is_lower(b) {
-        return true;
-    }
-    is_upper(b) | (b == b'-') | is_digit(b)
+    matches!(b, b'a'..=b'z' | b'A'..=b'Z' | b'-')
 }
 
 pub fn is_wild(b: u8) -> bool
     ensures { result ≡ is_wild b }
 {
-    (b == b'x') | (b == b'X') | (b == b'*')
+    matches!(b, b'x' | b'X' | b'*')
 }
 
 pub fn is_sign(b: u8) -> bool
     ensures { result ≡ is_sign b }
 {
-    (b == b'-') | (b == b'+')
+    matches!(b, b'-' | b'+')
 }
 
-// ---- runs of a class, and fixed bytes
+// A class of the bytes that identifiers are made of.
+pub trait Class {
+    ghost class: { ℕ → Bool };
 
-pub fn skip_spaces(s: &[u8]) -> usize
-    ensures value { result ≡ length (skip s.now) }
-    ensures within { result ≤ length s.now }
+    fn has(b: u8) -> bool
+        ensures { result ≡ class b };
+}
+
+pub struct Digit;
+
+impl Class for Digit {
+    ghost class = { is_digit };
+
+    #[tactic(auto, unfolding(rules::specs::Bytes::is_digit))]
+    fn has(b: u8) -> bool {
+        matches!(b, b'0'..=b'9')
+    }
+}
+
+// A letter, a digit or `-`.
+pub struct Word;
+
+impl Class for Word {
+    ghost class = { is_word };
+
+    #[tactic(auto, unfolding(rules::specs::Bytes::is_digit, rules::specs::Bytes::is_letter))]
+    fn has(b: u8) -> bool {
+        matches!(b, b'a'..=b'z' | b'A'..=b'Z' | b'-' | b'0'..=b'9')
+    }
+}
+
+// ---- runs of a class
+
+#[tactic(auto, unfolding(rules::specs::Parse::count))]
+pub fn skip_spaces(s: &[u8]) -> &[u8]
+    ensures { result.now ≡ skip s.now }
 {
-    let mut i = 0;
-    while i < s.len() {
-        if is_space(s[i]) {
-            i += 1;
-        } else {
-            return s.len() - i;
+    let mut left = s;
+    while let [b, behind @ ..] = left {
+        if !is_space(*b) {
+            return left;
+        }
+        left = behind;
+    }
+    left
+}
+
+// The first bytes of the class, up to 65,535: how many, counted in 16 bits (02, N5), and what is left behind them.
+#[tactic(auto, unfolding(rules::specs::Parse::count))]
+fn skip_part<C: Class>(s: &[u8]) -> (u16, &[u8])
+    ensures left { rest C.class s.now ≡ rest C.class result.1.now }
+    ensures size { result.0 + length result.1.now ≡ length s.now }
+    ensures whole { result.0 < 65535 → count C.class result.1.now ≡ 0 }
+{
+    let mut left = s;
+    for n in 0..u16::MAX {
+        match left {
+            [b, behind @ ..] if C::has(*b) => left = behind,
+            _ => return (n, left),
         }
     }
-    0
+    (u16::MAX, left)
 }
 
-// The bytes of digits and words, of which identifiers are made, are counted in 16 bits, by parts of at most so many.
-const LONGEST_PART: usize = 65535;
-
-// How many were passed: all before the part that begins at the place `at`, and n of that.
-#[derive(Clone, Copy)]
-struct Passed {
-    at: usize,
-    n: u16,
-}
-
-// The byte at the place i is passed too: one more of the part, or where that is full, the first of the next one.
-fn one_more(p: Passed, i: usize) -> Passed
-    requires { p.at + p.n ≡ i }
-    ensures { result.at + result.n ≡ i + 1 }
+// A longer run has several parts.
+pub fn skip_run<C: Class>(s: &[u8]) -> &[u8]
+    ensures { result.now ≡ rest C.class s.now }
 {
-    if (p.n as usize) < LONGEST_PART {
-        return Passed {
-            at: p.at,
-            n: p.n + 1,
-        };
-    }
-    Passed { at: i, n: 1 }
-}
-
-pub fn skip_digits(s: &[u8]) -> usize
-    ensures { result ≡ length (rest is_digit s.now) }
-{
-    let mut p = Passed { at: 0, n: 0 };
+    let mut left = s;
     loop {
-        let i = p.at + p.n as usize;
-        if s.len() <= i {
-            return 0;
-        }
-        if is_digit(s[i]) {
-            p = one_more(p, i);
-        } else {
-            return s.len() - i;
-        }
-    }
-}
-
-pub fn skip_words(s: &[u8]) -> usize
-    ensures { result ≡ length (rest is_word s.now) }
-{
-    let mut p = Passed { at: 0, n: 0 };
-    loop {
-        let i = p.at + p.n as usize;
-        if s.len() <= i {
-            return 0;
-        }
-        if is_word(s[i]) {
-            p = one_more(p, i);
-        } else {
-            return s.len() - i;
+        let (n, behind) = skip_part::<C>(left);
+        left = behind;
+        if n < u16::MAX {
+            return left;
         }
     }
 }
 
 // ---- numbers
 
-// A number's value, or the largest where it is too large. Where there is none, 0, and nothing is taken.
+// A number's value, where it is not too large, and what is left behind it.
 #[derive(Clone, Copy)]
-pub struct Number {
-    pub value: u64,
-    pub large: bool,
-    pub left: usize,
+pub struct Number<'a> {
+    pub value: Option<u64>,
+    pub left: &'a [u8],
 }
 
-#[derive(Clone, Copy)]
-struct Sum {
-    value: u64,
-    large: bool,
-}
-
-// What a digit stands for.
-fn digit(b: u8) -> u64
-    ensures { result ≡ b - 48 }
+// A digit more.
+#[tactic(auto, unfolding(rules::specs::Bytes::is_digit))]
+fn push(value: Option<u64>, digit: u8) -> Option<u64>
+    requires { is_digit digit ≡ true }
+    ensures { result ≡ pushed value digit }
 {
-    if b < b'0' {
-        return 0;
-    }
-    (b - b'0') as u64
+    value?.checked_mul(10)?.checked_add(u64::from(digit - b'0'))
 }
 
-// A digit more, or the largest, marked.
-fn push(value: u64, b: u8) -> Sum
-    requires { is_digit b ≡ true }
-    ensures { result ≡ pushed value b }
+// The digits that s begins with.
+#[tactic(auto, using(crate::proofs::Numbers::digits), unfolding(rules::specs::Parse::count))]
+fn read_digits(s: &[u8]) -> Number<'_>
+    ensures value { result.value ≡ digits_value s.now }
+    ensures left { result.left.now ≡ rest is_digit s.now }
 {
-    let d = digit(b);
-    if value < 1844674407370955161 {
-        return Sum {
-            value: value * 10 + d,
-            large: false,
-        };
-    }
-    if value == 1844674407370955161 {
-        if d <= 5 {
-            return Sum {
-                value: value * 10 + d,
-                large: false,
-            };
+    let mut value = Some(0);
+    let mut left = s;
+    while let [b, behind @ ..] = left {
+        if !Digit::has(*b) {
+            return Number { value, left };
         }
+        value = push(value, *b);
+        left = behind;
     }
-    Sum {
-        value: 18446744073709551615,
-        large: true,
+    Number { value, left }
+}
+
+#[tactic(auto, unfolding(crate::proofs::Opened::readers))]
+pub fn read_number(s: &[u8]) -> Option<Number<'_>>
+    ensures { number_in result ≡ number_of (read_number s.now) }
+{
+    match s {
+        [b'0', left @ ..] => Some(Number {
+            value: Some(0),
+            left,
+        }),
+        [b, ..] if Digit::has(*b) => Some(read_digits(s)),
+        _ => None,
     }
 }
 
-// The digits that s begins with, behind digits of the value start.
-fn read_digits(s: &[u8], start: u64) -> Number
-    ensures { result ≡ digits_after start s.now }
+// These bytes.
+pub fn skip_bytes<'a>(s: &'a [u8], w: &[u8]) -> Option<&'a [u8]>
+    ensures { rest_in result ≡ rest_of (literal w.now s.now) }
 {
-    let mut value = start;
-    let mut large = false;
-    let mut i = 0;
-    while i < s.len() {
-        let b = s[i];
-        if is_digit(b) {
-            let a = push(value, b);
-            value = a.value;
-            large = a.large;
-            i += 1;
-        } else {
-            return Number {
-                value,
-                large,
-                left: s.len() - i,
-            };
-        }
-    }
-    Number {
-        value,
-        large,
-        left: 0,
+    s.strip_prefix(w)
+}
+
+// A dot.
+#[tactic(auto, unfolding(crate::proofs::Opened::readers))]
+pub fn skip_dot(s: &[u8]) -> Option<&[u8]>
+    ensures { rest_in result ≡ rest_of (literal (bytes ".") s.now) }
+{
+    match s {
+        [b'.', left @ ..] => Some(left),
+        _ => None,
     }
 }
 
-pub fn read_number(s: &[u8]) -> Number
-    ensures value { result ≡ number_of s.now (read_number s.now) }
-    ensures within { result.left ≤ length s.now }
+// A dot and a number.
+#[tactic(auto, unfolding(crate::proofs::Opened::readers))]
+pub fn read_dot_number(s: &[u8]) -> Option<Number<'_>>
+    ensures { number_in result ≡ number_of (read_after_dot read_number s.now) }
 {
-    if s.len() == 0 {
-        return Number {
-            value: 0,
-            large: false,
-            left: 0,
-        };
-    }
-    let first = s[0];
-    if first == b'0' {
-        return Number {
-            value: 0,
-            large: false,
-            left: s.len() - 1,
-        };
-    }
-    if !is_digit(first) {
-        return Number {
-            value: 0,
-            large: false,
-            left: s.len(),
-        };
-    }
-    read_digits(&s[1..], digit(first))
+    read_number(skip_dot(s)?)
 }
 
-// A number that is not read: how many bytes are left behind it.
-pub fn skip_number(s: &[u8]) -> usize
-    ensures value { result ≡ left_of s.now (read_number s.now) }
-    ensures within { result ≤ length s.now }
+// A number that is not read.
+#[tactic(auto, unfolding(crate::proofs::Opened::readers))]
+pub fn skip_number(s: &[u8]) -> Option<&[u8]>
+    ensures { rest_in result ≡ rest_of (read_number s.now) }
 {
-    if s.len() == 0 {
-        return 0;
+    match s {
+        [b'0', left @ ..] => Some(left),
+        [b, left @ ..] if Digit::has(*b) => Some(skip_run::<Digit>(left)),
+        _ => None,
     }
-    if s[0] == b'0' {
-        return s.len() - 1;
-    }
-    if is_digit(s[0]) {
-        return skip_digits(&s[1..]);
-    }
-    s.len()
-}
-
-// ---- fixed bytes
-
-// Whether s begins with the bytes of w.
-pub fn starts_with(s: &[u8], w: &[u8]) -> bool
-    ensures { result ≡ starts_with w.now s.now }
-{
-    let mut i = 0;
-    while i < w.len() {
-        if s.len() <= i {
-            return false;
-        }
-        if s[i] == w[i] {
-            i += 1;
-        } else {
-            return false;
-        }
-    }
-    true
 }
 
 // ---- identifiers
 
-// An identifier: a number with its value, or a text, which is the bytes before what is left. Where there is none, nothing is taken.
+// A number, or a text by its bytes.
 #[derive(Clone, Copy)]
-pub struct Identifier {
-    pub number: bool,
-    pub value: u64,
-    pub left: usize,
+pub enum Identifier<'a> {
+    Number(u64),
+    Text(&'a [u8]),
 }
 
-pub fn read_identifier(s: &[u8]) -> Identifier
-    ensures { result ≡ identifier_of s.now (read_identifier s.now) }
+// The bytes of s before what is left of it.
+pub fn before<'a>(s: &'a [u8], left: &[u8]) -> &'a [u8]
+    requires { length left.now ≤ length s.now }
+    ensures { result.now ≡ before s.now left.now }
 {
-    if s.len() == 0 {
-        return Identifier {
-            number: false,
-            value: 0,
-            left: 0,
-        };
+    &s[..s.len() - left.len()]
+}
+
+#[tactic(auto, unfolding(crate::proofs::Opened::readers))]
+pub fn read_identifier(s: &[u8]) -> Option<(Identifier<'_>, &[u8])>
+    ensures { identifier_in result ≡ read_identifier s.now }
+{
+    if let [b, behind @ ..] = s {
+        if is_letter(*b) {
+            let left = skip_run::<Word>(behind);
+            return Some((Identifier::Text(before(s, left)), left));
+        }
     }
-    if is_letter(s[0]) {
-        return Identifier {
-            number: false,
-            value: 0,
-            left: skip_words(&s[1..]),
-        };
-    }
-    let n = read_number(s);
-    if n.large | (n.left == s.len()) {
-        return Identifier {
-            number: false,
-            value: 0,
-            left: n.left,
-        };
-    }
-    Identifier {
-        number: true,
-        value: n.value,
-        left: n.left,
+    let n = read_number(s)?;
+    match n.value {
+        Some(value) => Some((Identifier::Number(value), n.left)),
+        None => Some((Identifier::Text(before(s, n.left)), n.left)),
     }
 }
 
-// An identifier that is not read: how many bytes are left behind it.
-pub fn skip_identifier(s: &[u8]) -> usize
-    ensures value { result ≡ left_of s.now (read_identifier s.now) }
-    ensures within { result ≤ length s.now }
+// An identifier that is not read.
+#[tactic(auto, unfolding(crate::proofs::Opened::readers))]
+pub fn skip_identifier(s: &[u8]) -> Option<&[u8]>
+    ensures { rest_in result ≡ rest_of (read_identifier s.now) }
 {
-    if s.len() == 0 {
-        return 0;
+    match s {
+        [b, left @ ..] if is_letter(*b) => Some(skip_run::<Word>(left)),
+        _ => skip_number(s),
     }
-    if is_letter(s[0]) {
-        return skip_words(&s[1..]);
+}
+
+// ---- identifiers with dots between
+
+// A reader of identifiers: those of a range, and in crates above those of a version.
+pub trait Reader {
+    ghost Item: { Type 0 };
+
+    ghost reads: { List ℕ → Result Item };
+
+    fn skip(s: &[u8]) -> Option<&[u8]>
+        ensures { rest_in result ≡ rest_of (reads s.now) };
+
+    ghost takes: { Takes reads };
+}
+
+// The identifiers of a range.
+pub struct Ranges;
+
+impl Reader for Ranges {
+    ghost Item = { Identifier };
+
+    ghost reads = { read_identifier };
+
+    fn skip(s: &[u8]) -> Option<&[u8]> {
+        skip_identifier(s)
     }
-    skip_number(s)
+
+    ghost takes = { identifier-behind };
+}
+
+// How many identifiers there are, and what is left behind them.
+#[derive(Clone, Copy)]
+pub struct Identifiers<'a> {
+    pub count: usize,
+    pub left: &'a [u8],
 }
 
 // A dot and an identifier.
-pub fn skip_dot_identifier(s: &[u8]) -> usize
-    ensures value { result ≡ left_of s.now (read_dot_identifier s.now) }
-    ensures within { result ≤ length s.now }
+#[tactic(auto, unfolding(crate::proofs::Opened::readers))]
+pub fn skip_after_dot<R: Reader>(s: &[u8]) -> Option<&[u8]>
+    ensures { rest_in result ≡ rest_of (read_after_dot R.reads s.now) }
 {
-    if s.len() == 0 {
-        return 0;
-    }
-    if s[0] == b'.' {
-        let n = skip_identifier(&s[1..]);
-        if n == s.len() - 1 {
-            return s.len();
-        }
-        return n;
-    }
-    s.len()
-}
-
-// How many identifiers there are, and how many bytes are left behind them.
-#[derive(Clone, Copy)]
-pub struct Identifiers {
-    pub count: usize,
-    pub left: usize,
+    R::skip(skip_dot(s)?)
 }
 
 // A dot and an identifier, as often as they follow.
-fn skip_dotted(s: &[u8]) -> Identifiers
-    ensures value { result ≡ identifiers_of s.now (all read_dot_identifier s.now) }
-    ensures within { result.count + result.left ≤ length s.now }
+#[tactic(auto, using(crate::proofs::Series::repeats))]
+fn skip_dotted<R: Reader>(s: &[u8]) -> Identifiers<'_>
+    ensures answer { identifiers_is result ≡ counted (all (read_after_dot R.reads) s.now) }
+    ensures within { result.count + length result.left.now ≤ length s.now }
 {
     let mut count = 0;
-    let mut left = s.len();
-    loop {
-        let at = s.len() - left;
-        let n = skip_dot_identifier(&s[at..]);
-        if n == left {
-            return Identifiers { count, left };
-        }
-        left = n;
+    let mut left = s;
+    while let Some(behind) = skip_after_dot::<R>(left) {
         count += 1;
+        left = behind;
     }
+    Identifiers { count, left }
 }
 
 // Identifiers with dots between.
-pub fn skip_identifiers(s: &[u8]) -> Identifiers
-    ensures value { result ≡ identifiers_of s.now (read_identifiers s.now) }
-    ensures within { result.count + result.left ≤ length s.now }
+#[tactic(auto, using(crate::proofs::Series::series))]
+pub fn skip_identifiers<R: Reader>(s: &[u8]) -> Option<Identifiers<'_>>
+    ensures answer { identifiers_in result ≡ counted (read_series R.reads s.now) }
+    ensures within { IfSome result (λ found. found.count + length found.left.now ≤ length s.now) }
 {
-    let n = skip_identifier(s);
-    if n == s.len() {
-        return Identifiers { count: 0, left: n };
-    }
-    let at = s.len() - n;
-    let d = skip_dotted(&s[at..]);
-    Identifiers {
-        count: 1 + d.count,
-        left: d.left,
-    }
+    let first = R::skip(s)?;
+    let further = skip_dotted::<R>(first);
+    Some(Identifiers {
+        count: 1 + further.count,
+        left: further.left,
+    })
+}
+
+// How many identifiers a qualifier has, the text that they begin, and what is left behind them.
+#[derive(Clone, Copy)]
+pub struct Qualifier<'a> {
+    pub count: usize,
+    pub identifiers: &'a [u8],
+    pub left: &'a [u8],
 }
 
 // `-` or `+`, then identifiers with dots between.
-pub fn skip_qualifier(s: &[u8]) -> Identifiers
-    ensures value { result ≡ identifiers_of s.now (read_qualifier s.now) }
-    ensures within { result.count + result.left ≤ length s.now }
+#[tactic(auto, using(crate::proofs::Series::signed))]
+fn skip_signed(s: &[u8]) -> Option<Qualifier<'_>>
+    ensures answer { qualifier_in result ≡ qualifier_of (read_signed s.now) }
+    ensures within { IfSome result (λ found. found.count + length found.left.now ≤ length s.now) }
 {
-    if s.len() == 0 {
-        return Identifiers { count: 0, left: 0 };
-    }
-    if is_sign(s[0]) {
-        let j = skip_identifiers(&s[1..]);
-        if j.count == 0 {
-            return Identifiers {
-                count: 0,
-                left: s.len(),
-            };
+    match s {
+        [b, identifiers @ ..] if is_sign(*b) => {
+            let found = skip_identifiers::<Ranges>(identifiers)?;
+            Some(Qualifier {
+                count: found.count,
+                identifiers,
+                left: found.left,
+            })
         }
-        return j;
+        _ => None,
     }
-    Identifiers {
-        count: 0,
-        left: s.len(),
+}
+
+// A sign without identifiers is left.
+#[tactic(auto, using(crate::proofs::Series::qualifiers))]
+pub fn skip_qualifier(s: &[u8]) -> Qualifier<'_>
+    ensures answer { qualifier_is result ≡ qualifier_of (read_qualifier s.now) }
+    ensures within { result.count + length result.left.now ≤ length s.now }
+{
+    match skip_signed(s) {
+        Some(found) => found,
+        None => Qualifier {
+            count: 0,
+            identifiers: &[],
+            left: s,
+        },
     }
 }

@@ -2,9 +2,10 @@
 -- identifier bytes as a place and a size.
 -- Assumes nothing.
 use Prim.Native.Nat.{ℕ, zero, suc, ◌+◌}
-use mathlib.Core.Path.{◌≡◌, refl, sym, ap, ◌∙◌}
+use mathlib.Core.Path.{◌≡◌, refl, ap, ◌∙◌}
 use mathlib.Core.Bool.{Bool, true, false}
 use mathlib.Core.List.{List, [], ◌∷◌}
+use mathlib.Core.Option.{none, some}
 use native.Mathlib.Omega.{arith}
 use lib.Dec.{leb}
 use lib.ListN.{length, take, drop}
@@ -12,52 +13,50 @@ use Rattle.rules.specs.Bytes.{pick}
 use Rattle.rules.specs.Expansion as E
 use Rattle.rules.specs.Answers.{Answer, refused, or_refused, reading_outcome, written, identifier_words_after, identifier_bytes, normal_text_outcome, bytes_after, Outcome, Length}
 use Rattle.rules.specs.Exported.{under, after_mode, words_under, Verdict, verdict, part_at}
-use Rattle.range.specs.Views.{compat_of, mode_is}
+use Rattle.range.specs.Views.{compat_of}
 use Rattle.range.specs.declared.Compat.{Compat}
-use Rattle.range.specs.declared.Mode.{Mode}
-use Rattle.range.specs.declared.Mode.TheVariants as Modes
+use Rattle.std.specs.Prelude.{Result}
+use Rattle.refusals.specs.declared.Refusal.{Refusal}
+use Rattle.refusals.specs.Views.{answer_of}
 use Rattle.range.proofs.Modes.{under-mode, under_none}
 use Rattle.rangeset.specs.Views.{outcome_of}
-use Rattle.rangeset.specs.declared.Reading.{Reading}
+use Rattle.rangeset.specs.declared.Counts.{Counts}
 use Rattle.normal_text.specs.Views.{length_of}
-use Rattle.normal_text.specs.declared.NormalText.{NormalText}
-use Rattle.admission.specs.Views.{answer_of}
-use Rattle.admission.specs.declared.Admission.{Admission}
 use Rattle.numbers.specs.Views.{outcome, length_is, verdict_is, part_is}
 
 -- ---- a call under a mode
 
-module _ (k : ℕ) (m : Mode) (e : mode_is m ≡ E.mode_from k) where
+module _ (k : ℕ) where
   -- the number is a mode's: what the call hands back
-  module _ (c : Compat) (q : m ≡ Modes.Compat c) where
+  module _ (c : Compat) (e : some (compat_of c) ≡ E.mode_from k) where
     under-this : {A : Type 0} (f : E.Compat → Answer A) → f (compat_of c) ≡ under k f
-    under-this f = under-mode k m e f c q
+    under-this f = under-mode k f (compat_of c) e
 
-    pub mode-counts : (f : E.Compat → Answer E.Reading) (r : Reading) → outcome_of r ≡ reading_outcome (f (compat_of c))
+    pub mode-counts : (f : E.Compat → Answer E.Reading) (r : Result Counts Refusal) → outcome_of r ≡ reading_outcome (f (compat_of c))
         → (x : Outcome) → x ≡ outcome_of r → x ≡ reading_outcome (under k f)
     mode-counts f r h x p = p ∙ h ∙ ap reading_outcome (under-this f)
 
     pub mode-words : (f : E.Compat → List ℕ) (w x : List ℕ) → x ≡ f (compat_of c) → x ≡ words_under k f w
     unfolding words_under
-    mode-words f w x p = p ∙ ap (λ o. after_mode (or_refused 255 o) f w) (sym (ap mode_is q) ∙ e)
+    mode-words f w x p = p ∙ ap (λ o. after_mode (or_refused 255 o) f w) e
 
     pub mode-ids : (f : E.Compat → Answer E.Reading) (s i x : List ℕ) → x ≡ identifier_words_after s (f (compat_of c)) i → x ≡ identifier_words_after s (under k f) i
     mode-ids f s i x p = p ∙ ap (λ a. identifier_words_after s a i) (under-this f)
 
-    pub mode-length : (f : E.Compat → Answer (List ℕ)) (r : NormalText) → length_of r ≡ normal_text_outcome (f (compat_of c))
+    pub mode-length : (f : E.Compat → Answer (List ℕ)) (r : Result ℕ Refusal) → length_of r ≡ normal_text_outcome (f (compat_of c))
         → (x : Length) → x ≡ length_of r → x ≡ normal_text_outcome (under k f)
     mode-length f r h x p = p ∙ h ∙ ap normal_text_outcome (under-this f)
 
     pub mode-bytes : (f : E.Compat → Answer (List ℕ)) (o x : List ℕ) → x ≡ bytes_after (f (compat_of c)) o → x ≡ bytes_after (under k f) o
     mode-bytes f o x p = p ∙ ap (λ a. bytes_after a o) (under-this f)
 
-    pub mode-verdict : (f : E.Compat → Answer Bool) (r : Admission) → answer_of r ≡ f (compat_of c) → (x : Verdict) → x ≡ verdict (answer_of r) → x ≡ verdict (under k f)
+    pub mode-verdict : (f : E.Compat → Answer Bool) (r : Result Bool Refusal) → answer_of r ≡ f (compat_of c) → (x : Verdict) → x ≡ verdict (answer_of r) → x ≡ verdict (under k f)
     mode-verdict f r h x p = p ∙ ap verdict (h ∙ under-this f)
 
   -- it is none: zero counts, and nothing that was lent changes
-  module _ (q : m ≡ Modes.Nothing) where
+  module _ (e : none ≡ E.mode_from k) where
     no_mode : {A : Type 0} (f : E.Compat → Answer A) → under k f ≡ refused 255
-    no_mode f = under_none k m e f q
+    no_mode f = under_none k f e
 
     pub none-counts : (f : E.Compat → Answer E.Reading) (a b c : ℕ) → a ≡ 0 → b ≡ 0 → c ≡ 0 → outcome 255 a b c ≡ reading_outcome (under k f)
     unfolding reading_outcome
@@ -65,7 +64,7 @@ module _ (k : ℕ) (m : Mode) (e : mode_is m ≡ E.mode_from k) where
 
     pub none-words : (f : E.Compat → List ℕ) (w : List ℕ) → w ≡ words_under k f w
     unfolding words_under
-    none-words f w = ap (λ o. after_mode (or_refused 255 o) f w) (sym (ap mode_is q) ∙ e)
+    none-words f w = ap (λ o. after_mode (or_refused 255 o) f w) e
 
     pub none-ids : (f : E.Compat → Answer E.Reading) (s i : List ℕ) → i ≡ identifier_words_after s (under k f) i
     unfolding identifier_words_after written

@@ -12,9 +12,10 @@ ghost use Rattle.numbers.specs.Views.{outcome, length_is, verdict_is, part_is};
 
 use admission::admit;
 use normal_text::{normal_text, normal_text_len};
-use numbers::{put_admitted, put_counts, put_length, put_no_counts};
-use range::{Mode, NO_MODE, mode_of};
-use rangeset::{count, identifier_bytes, read};
+use numbers::{NO_MODE, put_counts, put_length, put_no_counts, put_verdict};
+use range::Compat;
+use rangeset::{count, identifier_bytes};
+use reading::read;
 
 // ---- the reading
 
@@ -27,8 +28,7 @@ pub fn maluwesi_count(
 ) -> u64
     ensures { outcome result ranges.new comparators.new identifiers.new ≡ reading_outcome (under mode (λ m. reading m text.now)) }
 {
-    let m = mode_of(mode);
-    let Mode::Compat(compat) = m else {
+    let Ok(compat) = Compat::try_from(mode) else {
         put_no_counts(ranges, comparators, identifiers);
         return NO_MODE;
     };
@@ -48,8 +48,7 @@ pub fn maluwesi_read(
     ensures words { words.new ≡ words_under mode (λ m. comparator_words_after m text.now (reading_call m text.now (length words.old) (length ids.old)) words.old) words.old }
     ensures ids { ids.new ≡ identifier_words_after text.now (under mode (λ m. reading_call m text.now (length words.old) (length ids.old))) ids.old }
 {
-    let m = mode_of(mode);
-    let Mode::Compat(compat) = m else {
+    let Ok(compat) = Compat::try_from(mode) else {
         put_no_counts(ranges, comparators, identifiers);
         return NO_MODE;
     };
@@ -58,6 +57,7 @@ pub fn maluwesi_read(
 }
 
 // Where the identifier's bytes begin in the text, and how many they are. The empty part begins at 0. It never refuses.
+#[tactic(auto, using(crate::proofs::Exporting::parts))]
 pub fn maluwesi_identifier_bytes(
     text: &[u8],
     place: usize,
@@ -82,8 +82,7 @@ pub fn maluwesi_identifier_bytes(
 pub fn maluwesi_normal_text_len(text: &[u8], mode: u8, lent: usize, len: &mut usize) -> u64
     ensures { length_is result len.new ≡ normal_text_outcome (under mode (λ m. normal_text_call m text.now lent)) }
 {
-    let m = mode_of(mode);
-    let Mode::Compat(compat) = m else {
+    let Ok(compat) = Compat::try_from(mode) else {
         *len = 0;
         return NO_MODE;
     };
@@ -94,8 +93,7 @@ pub fn maluwesi_normal_text(text: &[u8], mode: u8, out: &mut [u8], len: &mut usi
     ensures answer { length_is result len.new ≡ normal_text_outcome (under mode (λ m. normal_text_call m text.now (length out.old))) }
     ensures bytes { out.new ≡ bytes_after (under mode (λ m. normal_text_call m text.now (length out.old))) out.old }
 {
-    let m = mode_of(mode);
-    let Mode::Compat(compat) = m else {
+    let Ok(compat) = Compat::try_from(mode) else {
         *len = 0;
         return NO_MODE;
     };
@@ -108,10 +106,9 @@ pub fn maluwesi_normal_text(text: &[u8], mode: u8, out: &mut [u8], len: &mut usi
 pub fn maluwesi_admit(text: &[u8], mode: u8, version: &[u8], admitted: &mut u8) -> u64
     ensures { verdict_is result admitted.new ≡ verdict (under mode (λ m. admission_call m text.now version.now)) }
 {
-    let m = mode_of(mode);
-    let Mode::Compat(compat) = m else {
+    let Ok(compat) = Compat::try_from(mode) else {
         *admitted = 0;
         return NO_MODE;
     };
-    put_admitted(admit(text, compat, version), admitted)
+    put_verdict(admit(text, compat, version), admitted)
 }

@@ -2,30 +2,25 @@
 -- Assumes nothing.
 use Prim.Native.Nat.{ℕ}
 use mathlib.Core.Path.{◌≡◌, refl, sym, ap, ◌∙◌}
+use mathlib.Core.Bool.{Bool}
 use mathlib.Core.List.{List}
-use mathlib.Core.Option.{Option, some}
+use mathlib.Core.Option.{Option, none, some}
 use Rattle.rules.specs.Expansion as E
-use Rattle.rules.specs.Answers.{Answer, refused, or_refused, map_answer, reading_outcome, written, and_then}
+use Rattle.rules.specs.Answers.{Answer, accepted, refused, or_refused, map_answer, reading_outcome, written, and_then}
 use Rattle.rules.specs.Equality as Q
 use Rattle.rules.specs.Equality.{reread_outcome, reread_bytes_after, reread_comparators_after, reread_identifiers_after, Texts, texts_equal, first_after, second_after}
 use Rattle.rules.specs.Exported.{modes_of, under_both, reread_under, RereadNumbers, reread_numbers, Verdict, verdict}
-use Rattle.range.specs.Views.{compat_of, mode_is}
+use Rattle.std.specs.Prelude.{Result, Ok, Err}
+use Rattle.range.specs.Views.{compat_of}
 use Rattle.range.specs.declared.Compat.{Compat}
-use Rattle.range.specs.declared.Mode.{Mode}
-use Rattle.range.specs.declared.Mode.TheVariants as One
-use Rattle.rangeset.specs.Views.{number_of, outcome_of}
-use Rattle.rangeset.specs.declared.Refusal.{Refusal}
+use Rattle.refusals.specs.declared.Refusal.{Refusal}
+use Rattle.refusals.specs.Views.{answer_of}
+use Rattle.rangeset.specs.Views.{outcome_of}
 use Rattle.rangeset.specs.declared.Counts.{Counts}
-use Rattle.rangeset.specs.declared.Reading.TheVariants as Readings
-use Rattle.equality.specs.Views.{reread_of, answer_of}
-use Rattle.equality.specs.declared.Reread.{Reread}
-use Rattle.equality.specs.declared.Reread.TheVariants as Rereads
-use Rattle.equality.specs.declared.Equality.{Equality}
-use Rattle.equality.specs.declared.Equality.TheVariants as Equalities
+use Rattle.equality.specs.Views.{reread_of}
+use Rattle.equality.specs.declared.RereadError.{RereadError}
 use Rattle.numbers.specs.Views.{outcome, verdict_is}
-use Rattle.maluwesi_equality.specs.Views.{modes_are, reread_is}
-use Rattle.maluwesi_equality.specs.declared.Modes.{Modes}
-use Rattle.maluwesi_equality.specs.declared.Modes.TheVariants as Both
+use Rattle.maluwesi_equality.specs.Views.{reread_is}
 
 -- ---- the modes
 
@@ -33,65 +28,49 @@ use Rattle.maluwesi_equality.specs.declared.Modes.TheVariants as Both
 abbrev modes_from : Option E.Compat → Option E.Compat → Answer (E.Compat × E.Compat)
 modes_from a b = and_then (or_refused 255 a) (λ m. map_answer (λ m'. (m, m')) (or_refused 255 b))
 
-module _ (k : ℕ) (m : Mode) (e : mode_is m ≡ E.mode_from k) (l : ℕ) where
-  pub first-none : m ≡ One.Nothing → modes_are Both.Nothing ≡ modes_of k l
-  first-none q = ap (λ a. modes_from a (E.mode_from l)) (ap mode_is (sym q) ∙ e)
+module _ (k l : ℕ) where
+  pub first-none : none ≡ E.mode_from k → refused 255 ≡ modes_of k l
+  first-none e = ap (λ a. modes_from a (E.mode_from l)) e
 
-  module _ (c : Compat) (q : m ≡ One.Compat c) (m' : Mode) (e' : mode_is m' ≡ E.mode_from l) where
-    second : modes_of k l ≡ modes_from (some (compat_of c)) (mode_is m')
-    second = ap (λ a. modes_from a (E.mode_from l)) (sym (ap mode_is (sym q) ∙ e)) ∙ ap (modes_from (some (compat_of c))) (sym e')
+  module _ (m : E.Compat) (e : some m ≡ E.mode_from k) where
+    second : modes_from (some m) (E.mode_from l) ≡ modes_of k l
+    second = ap (λ a. modes_from a (E.mode_from l)) e
 
-    pub second_none : m' ≡ One.Nothing → modes_are Both.Nothing ≡ modes_of k l
-    second_none q' = sym (second ∙ ap (λ x. modes_from (some (compat_of c)) (mode_is x)) q')
+    pub second_none : none ≡ E.mode_from l → refused 255 ≡ modes_of k l
+    second_none i = ap (modes_from (some m)) i ∙ second
 
-    pub both-modes : (c' : Compat) → m' ≡ One.Compat c' → modes_are (Both.Compats c c') ≡ modes_of k l
-    both-modes c' q' = sym (second ∙ ap (λ x. modes_from (some (compat_of c)) (mode_is x)) q')
-
-pub ruleset pairs = (first-none, second_none, both-modes)
+    pub both-modes : (m' : E.Compat) → some m' ≡ E.mode_from l → accepted (m, m') ≡ modes_of k l
+    both-modes m' i = ap (modes_from (some m)) i ∙ second
 
 -- ---- the answer, as a number
 
-pub said-equal : (r : Equality) → r ≡ Equalities.Equal → verdict_is 0 1 ≡ verdict (answer_of r)
-unfolding verdict
-said-equal r q = rw q refl
+module _ (k : Counts) (n a b c : ℕ) (e : outcome n a b c ≡ outcome_of (Ok k)) where
+  pub counted-again : reread_is n 0 a b c ≡ reread_numbers (reread_of (Ok k))
+  counted-again = ap (λ o. record { outcome = o; normal = 0 }) e
 
-pub said-different : (r : Equality) → r ≡ Equalities.Different → verdict_is 0 0 ≡ verdict (answer_of r)
-unfolding verdict
-said-different r q = rw q refl
+module _ (y : Refusal) (n a b c : ℕ) (e : outcome n a b c ≡ outcome_of (Err y)) where
+  pub text-refused : reread_is n 0 a b c ≡ reread_numbers (reread_of (Err (RereadError.Text y)))
+  text-refused = ap (λ o. record { outcome = o; normal = 0 }) e
 
-pub refused-equality : (r : Equality) (y : Refusal) (n : ℕ) → r ≡ Equalities.Refused y → n ≡ number_of y → verdict_is n 0 ≡ verdict (answer_of r)
-unfolding verdict
-refused-equality r y n q e = rw q (ap (λ n. verdict_is n 0) e)
-
-module _ (r : Reread) where
-  pub counted-again : (k : Counts) → r ≡ Rereads.Accepted k → (n a b c : ℕ) → outcome n a b c ≡ outcome_of (Readings.Accepted k) → reread_is n 0 a b c ≡ reread_numbers (reread_of r)
-  counted-again k q n a b c e = rw q (ap (λ o. record { outcome = o; normal = 0 }) e)
-
-  module _ (y : Refusal) (n a b c : ℕ) (e : outcome n a b c ≡ outcome_of (Readings.Refused y)) where
-    pub text-refused : r ≡ Rereads.TextRefused y → reread_is n 0 a b c ≡ reread_numbers (reread_of r)
-    text-refused q = rw q (ap (λ o. record { outcome = o; normal = 0 }) e)
-
-    pub normal-refused : r ≡ Rereads.NormalRefused y → reread_is n 1 a b c ≡ reread_numbers (reread_of r)
-    normal-refused q = rw q (ap (λ o. record { outcome = o; normal = 1 }) e)
+  pub normal-refused : reread_is n 1 a b c ≡ reread_numbers (reread_of (Err (RereadError.NormalText y)))
+  normal-refused = ap (λ o. record { outcome = o; normal = 1 }) e
 
 pub ruleset rereads = (counted-again, text-refused, normal-refused)
 
-pub ruleset numbers = (said-equal, said-different, refused-equality)
-
 -- ---- a call under two modes
 
-module _ (k l : ℕ) (ms : Modes) (e : modes_are ms ≡ modes_of k l) where
+module _ (k l : ℕ) where
   -- both numbers are modes'
-  module _ (c c' : Compat) (q : ms ≡ Both.Compats c c') where
+  module _ (c c' : Compat) (e : accepted (compat_of c, compat_of c') ≡ modes_of k l) where
     under-both : {A : Type 0} (f : E.Compat → E.Compat → Answer A) → f (compat_of c) (compat_of c') ≡ under_both k l f
     unfolding under_both
-    under-both f = rw (sym (ap modes_are (sym q) ∙ e)) refl
+    under-both f = rw (sym e) refl
 
     under-reread : (f : E.Compat → E.Compat → Q.Reread) → f (compat_of c) (compat_of c') ≡ reread_under k l f
     unfolding reread_under
-    under-reread f = rw (sym (ap modes_are (sym q) ∙ e)) refl
+    under-reread f = rw (sym e) refl
 
-    pub both-counts : (f : E.Compat → E.Compat → Q.Reread) (r : Reread) → reread_of r ≡ reread_outcome (f (compat_of c) (compat_of c'))
+    pub both-counts : (f : E.Compat → E.Compat → Q.Reread) (r : Result Counts RereadError) → reread_of r ≡ reread_outcome (f (compat_of c) (compat_of c'))
         → (x : RereadNumbers) → x ≡ reread_numbers (reread_of r) → x ≡ reread_numbers (reread_outcome (reread_under k l f))
     both-counts f r h x p = p ∙ ap reread_numbers (h ∙ ap reread_outcome (under-reread f))
 
@@ -105,7 +84,7 @@ module _ (k l : ℕ) (ms : Modes) (e : modes_are ms ≡ modes_of k l) where
       pub both-ids : x ≡ reread_identifiers_after (f (compat_of c) (compat_of c')) o → x ≡ reread_identifiers_after (reread_under k l f) o
       both-ids p = p ∙ ap (λ a. reread_identifiers_after a o) (under-reread f)
 
-    pub both-verdict : (f : E.Compat → E.Compat → Answer Texts) (r : Equality) → answer_of r ≡ texts_equal (f (compat_of c) (compat_of c'))
+    pub both-verdict : (f : E.Compat → E.Compat → Answer Texts) (r : Result Bool Refusal) → answer_of r ≡ texts_equal (f (compat_of c) (compat_of c'))
         → (x : Verdict) → x ≡ verdict (answer_of r) → x ≡ verdict (texts_equal (under_both k l f))
     both-verdict f r h x p = p ∙ ap verdict (h ∙ ap texts_equal (under-both f))
 
@@ -117,14 +96,14 @@ module _ (k l : ℕ) (ms : Modes) (e : modes_are ms ≡ modes_of k l) where
       both-second p = p ∙ ap (λ a. second_after a o) (under-both f)
 
   -- one is none
-  module _ (q : ms ≡ Both.Nothing) where
+  module _ (e : refused 255 ≡ modes_of k l) where
     under-neither : {A : Type 0} (f : E.Compat → E.Compat → Answer A) → under_both k l f ≡ refused 255
     unfolding under_both
-    under-neither f = rw (sym (ap modes_are (sym q) ∙ e)) refl
+    under-neither f = rw (sym e) refl
 
     neither-reread : (f : E.Compat → E.Compat → Q.Reread) → reread_under k l f ≡ Q.text_refused 255
     unfolding reread_under
-    neither-reread f = rw (sym (ap modes_are (sym q) ∙ e)) refl
+    neither-reread f = rw (sym e) refl
 
     pub neither-counts : (f : E.Compat → E.Compat → Q.Reread) (a b c : ℕ) → a ≡ 0 → b ≡ 0 → c ≡ 0
         → reread_is 255 0 a b c ≡ reread_numbers (reread_outcome (reread_under k l f))

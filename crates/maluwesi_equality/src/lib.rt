@@ -5,42 +5,31 @@
 ghost use Rattle.std.specs.Prelude.{◌≡◌, length};
 ghost use Rattle.rules.specs.Equality.{reread_call, reread_outcome, reread_bytes_after, reread_comparators_after, reread_identifiers_after, texts_call, texts_equal, first_after, second_after};
 ghost use Rattle.rules.specs.Exported.{modes_of, under_both, reread_under, reread_numbers, verdict};
-ghost use Rattle.equality.specs.Views.{reread_of, answer_of};
+ghost use Rattle.equality.specs.Views.{reread_of};
 ghost use Rattle.numbers.specs.Views.{verdict_is};
 ghost use Rattle.maluwesi_equality.specs.Views.{modes_are, reread_is};
 
-use equality::{Equality, Reread, equal_readings, read_normal_text};
-use numbers::{put_counts, put_no_counts};
-use range::{Compat, Mode, NO_MODE, mode_of};
-use rangeset::Reading;
+use equality::{RereadError, equal_readings, read_normal_text};
+use numbers::{NO_MODE, put_counts, put_no_counts, put_verdict};
+use range::{Compat, UnknownMode};
+use rangeset::Counts;
 
 // ---- the modes
 
-#[derive(Clone, Copy)]
-enum Modes {
-    Compats(Compat, Compat),
-    Nothing,
-}
-
-fn modes_of(number: u8, other: u8) -> Modes
+fn modes_of(number: u8, other: u8) -> Result<(Compat, Compat), UnknownMode>
     ensures { modes_are result ≡ modes_of number other }
 {
-    let m = mode_of(number);
-    let Mode::Compat(compat) = m else {
-        return Modes::Nothing;
-    };
-    let o = mode_of(other);
-    let Mode::Compat(second) = o else {
-        return Modes::Nothing;
-    };
-    Modes::Compats(compat, second)
+    let compat = Compat::try_from(number)?;
+    let second = Compat::try_from(other)?;
+    Ok((compat, second))
 }
 
 // ---- a normal text, read again
 
 // The counts, and 1 in normal where it is the normal text that is refused.
+#[tactic(auto, using(crate::proofs::Exporting::rereads))]
 fn put_reread(
-    r: Reread,
+    r: Result<Counts, RereadError>,
     normal: &mut u8,
     ranges: &mut usize,
     comparators: &mut usize,
@@ -49,17 +38,17 @@ fn put_reread(
     ensures { reread_is result normal.new ranges.new comparators.new identifiers.new ≡ reread_numbers (reread_of r) }
 {
     match r {
-        Reread::Accepted(counts) => {
+        Ok(counts) => {
             *normal = 0;
-            put_counts(Reading::Accepted(counts), ranges, comparators, identifiers)
+            put_counts(Ok(counts), ranges, comparators, identifiers)
         }
-        Reread::TextRefused(refusal) => {
+        Err(RereadError::Text(refusal)) => {
             *normal = 0;
-            put_counts(Reading::Refused(refusal), ranges, comparators, identifiers)
+            put_counts(Err(refusal), ranges, comparators, identifiers)
         }
-        Reread::NormalRefused(refusal) => {
+        Err(RereadError::NormalText(refusal)) => {
             *normal = 1;
-            put_counts(Reading::Refused(refusal), ranges, comparators, identifiers)
+            put_counts(Err(refusal), ranges, comparators, identifiers)
         }
     }
 }
@@ -82,8 +71,7 @@ pub fn maluwesi_read_normal_text(
     ensures words { words.new ≡ reread_comparators_after (reread_under mode other (λ m m'. reread_call m m' text.now (length out.old) (length words.old) (length ids.old))) words.old }
     ensures ids { ids.new ≡ reread_identifiers_after (reread_under mode other (λ m m'. reread_call m m' text.now (length out.old) (length words.old) (length ids.old))) ids.old }
 {
-    let ms = modes_of(mode, other);
-    let Modes::Compats(compat, second) = ms else {
+    let Ok((compat, second)) = modes_of(mode, other) else {
         *normal = 0;
         put_no_counts(ranges, comparators, identifiers);
         return NO_MODE;
@@ -93,25 +81,6 @@ pub fn maluwesi_read_normal_text(
 }
 
 // ---- two texts, compared
-
-fn put_equal(r: Equality, equal: &mut u8) -> u64
-    ensures { verdict_is result equal.new ≡ verdict (answer_of r) }
-{
-    match r {
-        Equality::Equal => {
-            *equal = 1;
-            0
-        }
-        Equality::Different => {
-            *equal = 0;
-            0
-        }
-        Equality::Refused(refusal) => {
-            *equal = 0;
-            refusal.number()
-        }
-    }
-}
 
 // Whether the readings of two texts are equal: 1 or 0 in equal.
 pub fn maluwesi_equal_readings(
@@ -127,11 +96,10 @@ pub fn maluwesi_equal_readings(
     ensures first { out.new ≡ first_after (under_both mode mode2 (λ m m'. texts_call m text.now (length out.old) m' text2.now (length out2.old))) out.old }
     ensures second { out2.new ≡ second_after (under_both mode mode2 (λ m m'. texts_call m text.now (length out.old) m' text2.now (length out2.old))) out2.old }
 {
-    let ms = modes_of(mode, mode2);
-    let Modes::Compats(compat, second) = ms else {
+    let Ok((compat, second)) = modes_of(mode, mode2) else {
         *equal = 0;
         return NO_MODE;
     };
     let r = equal_readings(text, compat, text2, second, out, out2);
-    put_equal(r, equal)
+    put_verdict(r, equal)
 }

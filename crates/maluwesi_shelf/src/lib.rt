@@ -13,58 +13,57 @@ ghost use Rattle.shelf.specs.Views.{change_of, listing_of};
 ghost use Rattle.first_fit.specs.Views.{fit_of};
 ghost use Rattle.maluwesi_shelf.specs.Views.{found_is, fit_is};
 
-use first_fit::{Fit, first_fit};
+use entries::Part;
+use first_fit::first_fit;
 use lookup::lookup;
-use range::{Mode, NO_MODE, mode_of};
-use shelf::{Change, Listing, add, list, make_empty, remove};
+use numbers::NO_MODE;
+use range::Compat;
+use refusals::Refusal;
+use shelf::{add, list, make_empty, remove};
 
 // ---- the answers, as numbers
 
-fn change_number(c: Change) -> u64
-    ensures { result ≡ change_of c }
+fn change_number(r: Result<(), Refusal>) -> u64
+    ensures { result ≡ change_of r }
 {
-    match c {
-        Change::Done => 0,
-        Change::Refused(refusal) => refusal.number(),
+    match r {
+        Ok(()) => 0,
+        Err(refusal) => u64::from(refusal),
     }
 }
 
-fn put_part(a: Listing, place: &mut usize, len: &mut usize) -> u64
-    ensures { found_is result place.new len.new ≡ found_part (listing_of a) }
+#[tactic(auto, unfolding(shelf_rules::specs::Exported::found_part))]
+fn put_part(r: Result<Part, Refusal>, place: &mut usize, len: &mut usize) -> u64
+    ensures { found_is result place.new len.new ≡ found_part (listing_of r) }
 {
-    match a {
-        Listing::Text(part) => {
+    match r {
+        Ok(part) => {
             *place = part.place;
             *len = part.length;
             0
         }
-        Listing::Refused(refusal) => {
+        Err(refusal) => {
             *place = 0;
             *len = 0;
-            refusal.number()
+            u64::from(refusal)
         }
     }
 }
 
-fn put_fit(a: Fit, found: &mut u8, code: &mut u16) -> u64
-    ensures { fit_is result found.new code.new ≡ first_fit (fit_of a) }
+#[tactic(auto, unfolding(shelf_rules::specs::Exported::first_fit))]
+fn put_fit(r: Result<Option<u16>, Refusal>, found: &mut u8, code: &mut u16) -> u64
+    ensures { fit_is result found.new code.new ≡ first_fit (fit_of r) }
 {
-    match a {
-        Fit::Code(fitting) => {
+    *found = 0;
+    *code = 0;
+    match r {
+        Ok(Some(fitting)) => {
             *found = 1;
             *code = fitting;
             0
         }
-        Fit::Nothing => {
-            *found = 0;
-            *code = 0;
-            0
-        }
-        Fit::Refused(refusal) => {
-            *found = 0;
-            *code = 0;
-            refusal.number()
-        }
+        Ok(None) => 0,
+        Err(refusal) => u64::from(refusal),
     }
 }
 
@@ -77,12 +76,12 @@ pub fn maluwesi_shelf_clear(shelf: &mut [u8]) -> u64
     change_number(make_empty(shelf))
 }
 
+#[tactic(auto, unfolding(rules::specs::Exported::under))]
 pub fn maluwesi_shelf_add(shelf: &mut [u8], code: u16, mode: u8, text: &[u8]) -> u64
     ensures value { result ≡ refusal_of (under mode (λ m. add_call code m text.now shelf.old)) }
     ensures bytes { shelf.new ≡ shelf_after (under mode (λ m. add_call code m text.now shelf.old)) shelf.old }
 {
-    let m = mode_of(mode);
-    let Mode::Compat(compat) = m else {
+    let Ok(compat) = Compat::try_from(mode) else {
         return NO_MODE;
     };
     change_number(add(shelf, code, compat, text))

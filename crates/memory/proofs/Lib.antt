@@ -1,4 +1,3 @@
-pub mod Pasting
 pub mod Padding
 pub mod Numbers
 pub mod RemovalLaws

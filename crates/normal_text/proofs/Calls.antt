@@ -15,18 +15,17 @@ use Rattle.rules.specs.Answers.{Answer, accepted, refused, reading, reading_outc
 use Rattle.rules.proofs.Accepted.{reading-number}
 use Rattle.rules.proofs.NormalTextCall.{normal_text-accepted, normal-refused, normal-7, normal-accepts}
 use Rattle.passes.specs.Views.{Accepts}
-use Rattle.rangeset.specs.Views.{number_of, outcome_of}
-use Rattle.rangeset.specs.declared.Refusal.{Refusal}
-use Rattle.rangeset.specs.declared.Refusal.TheVariants as Refusals
-use Rattle.rangeset.specs.declared.Reading.{Reading}
-use Rattle.rangeset.specs.declared.Reading.TheVariants as R
+use Rattle.std.specs.Prelude.{Result, Ok, Err}
+use Rattle.refusals.specs.Views.{number_of}
+use Rattle.refusals.specs.declared.Refusal.{Refusal}
+use Rattle.refusals.specs.declared.Refusal.TheVariants as Refusals
+use Rattle.rangeset.specs.Views.{outcome_of}
+use Rattle.rangeset.specs.declared.Counts.{Counts}
 use Rattle.rangeset.proofs.Outcomes.{refusal-number, counted-accepts, refused-reading}
 use Rattle.normal_text.specs.Views.{length_of}
-use Rattle.normal_text.specs.declared.NormalText.{NormalText}
-use Rattle.normal_text.specs.declared.NormalText.TheVariants as T
 
 module _ (a : Answer (List ℕ)) (r : Refusal) (e : a ≡ refused (number_of r)) where
-  refused-result : length_of (T.Refused r) ≡ normal_text_outcome a
+  refused-result : length_of (Err r) ≡ normal_text_outcome a
   unfolding normal_text_outcome
   refused-result = rw e refl
 
@@ -34,29 +33,25 @@ module _ (a : Answer (List ℕ)) (r : Refusal) (e : a ≡ refused (number_of r))
   unfolding bytes_after written
   refused-bytes out = rw e refl
 
--- ---- fit
+-- ---- normal_text_len
 
 module _ (m : Compat) (s : List ℕ) (lent : ℕ) (a : Accepts m s) (n : ℕ) (e : n ≡ (normal_text_outcome (normal_text m s)).length) where
   is-length : n ≡ length (spell a.reads)
   unfolding normal_text_outcome
   is-length = e ∙ ap (λ w. (normal_text_outcome w).length) (normal_text-accepted m s a.reads a.is)
 
-  pub fit-short : lent < n → length_of (T.Refused Refusals.BytesShort) ≡ normal_text_outcome (normal_text_call m s lent)
+  pub fit-short : lent < n → length_of (Err Refusals.BytesShort) ≡ normal_text_outcome (normal_text_call m s lent)
   fit-short h =
       refused-result (normal_text_call m s lent) Refusals.BytesShort (normal-7 m s lent a.reads a.is (omega (arith, is-length)))
 
-  pub fit-whole : n ≤ lent → length_of (T.Written n) ≡ normal_text_outcome (normal_text_call m s lent)
+  pub fit-whole : n ≤ lent → length_of (Ok n) ≡ normal_text_outcome (normal_text_call m s lent)
   unfolding normal_text_outcome
   fit-whole h =
-      ap (λ k. length_of (T.Written k)) is-length
+      ap (λ k. length_of (Ok k)) is-length
       ∙ ap normal_text_outcome (sym (normal-accepts m s lent a.reads a.is (omega (arith, is-length))))
 
-pub ruleset fits = (fit-short, fit-whole)
-
--- ---- normal_text_len
-
-module _ (m : Compat) (s : List ℕ) (r : Reading) (e : outcome_of r ≡ reading_outcome (reading m s)) where
-  pub len-refused : (y : Refusal) → r ≡ R.Refused y → (lent : ℕ) → length_of (T.Refused y) ≡ normal_text_outcome (normal_text_call m s lent)
+module _ (m : Compat) (s : List ℕ) (r : Result Counts Refusal) (e : outcome_of r ≡ reading_outcome (reading m s)) where
+  pub len-refused : (y : Refusal) → r ≡ Err y → (lent : ℕ) → length_of (Err y) ≡ normal_text_outcome (normal_text_call m s lent)
   len-refused y q lent =
       refused-result (normal_text_call m s lent) y (normal-refused m s lent (number_of y) (refused-reading m s y (ap outcome_of (sym q) ∙ e)))
 
@@ -72,7 +67,7 @@ pub record Writes (m : Compat) (s : List ℕ) (lent n : ℕ) : Type 0 where
   pub size : n ≡ length (spell reads)
   pub room : length (spell reads) ≤ lent
 
-pub written-call : (m : Compat) (s : List ℕ) (lent n : ℕ) → length_of (T.Written n) ≡ normal_text_outcome (normal_text_call m s lent) → Writes m s lent n
+pub written-call : (m : Compat) (s : List ℕ) (lent n : ℕ) → length_of (Ok n) ≡ normal_text_outcome (normal_text_call m s lent) → Writes m s lent n
 unfolding normal_text_outcome
 written-call m s lent n e = go (reading m s) refl
   where
@@ -90,7 +85,7 @@ written-call m s lent n e = go (reading m s) refl
     go (accepted rs) q = fitting rs q (leb (length (spell rs)) lent) refl
     go (refused k) q = absurd (reading-number m s k q (sym (zero-apart k (normal-refused m s lent k q))))
 
-pub refused-call : (m : Compat) (s : List ℕ) (lent : ℕ) (y : Refusal) → length_of (T.Refused y) ≡ normal_text_outcome (normal_text_call m s lent)
+pub refused-call : (m : Compat) (s : List ℕ) (lent : ℕ) (y : Refusal) → length_of (Err y) ≡ normal_text_outcome (normal_text_call m s lent)
     → normal_text_call m s lent ≡ refused (number_of y)
 unfolding normal_text_outcome
 refused-call m s lent y e = go (normal_text_call m s lent) refl
@@ -99,13 +94,13 @@ refused-call m s lent y e = go (normal_text_call m s lent) refl
     go (accepted w) q = absurd (refusal-number y (ap (λ x. x.refusal) (e ∙ ap normal_text_outcome q)))
     go (refused k) q = q ∙ ap refused (sym (ap (λ x. x.refusal) (e ∙ ap normal_text_outcome q)))
 
-module _ (m : Compat) (s out : List ℕ) (r : NormalText) (e : length_of r ≡ normal_text_outcome (normal_text_call m s (length out))) where
-  pub call-refused : (y : Refusal) → r ≡ T.Refused y → out ≡ bytes_after (normal_text_call m s (length out)) out
-  call-refused y q = refused-bytes (normal_text_call m s (length out)) y (refused-call m s (length out) y (ap length_of (sym q) ∙ e)) out
+module _ (m : Compat) (s out : List ℕ) where
+  pub call-refused : (y : Refusal) → length_of (Err y) ≡ normal_text_outcome (normal_text_call m s (length out)) → out ≡ bytes_after (normal_text_call m s (length out)) out
+  call-refused y e = refused-bytes (normal_text_call m s (length out)) y (refused-call m s (length out) y e) out
 
-  module _ (n : ℕ) (q : r ≡ T.Written n) where
+  module _ (n : ℕ) (e : length_of (Ok n) ≡ normal_text_outcome (normal_text_call m s (length out))) where
     writes : Writes m s (length out) n
-    writes = written-call m s (length out) n (ap length_of (sym q) ∙ e)
+    writes = written-call m s (length out) n e
 
     pub call-accepts : Accepts m s
     call-accepts = record { reads = writes.reads; is = writes.is }
@@ -114,10 +109,7 @@ module _ (m : Compat) (s out : List ℕ) (r : NormalText) (e : length_of r ≡ n
     unfolding normal_text_outcome
     call-room = rw (normal_text-accepted m s writes.reads writes.is) writes.room
 
-    pub call-result : length_of (T.Written n) ≡ normal_text_outcome (normal_text_call m s (length out))
-    call-result = ap length_of (sym q) ∙ e
-
     pub call-bytes : (x : List ℕ) → x ≡ bytes_after (normal_text m s) out → x ≡ bytes_after (normal_text_call m s (length out)) out
     call-bytes x p = p ∙ ap (λ w. bytes_after w out) (normal_text-accepted m s writes.reads writes.is ∙ sym writes.call)
 
-pub ruleset calls = (call-refused, call-accepts, call-room, call-result, call-bytes)
+pub ruleset calls = (call-refused, call-accepts, call-room, call-bytes)

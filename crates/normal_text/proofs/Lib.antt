@@ -1,5 +1,4 @@
-pub mod Gaps
 pub mod Identified
-pub mod Steps
+pub mod Spelled
 pub mod Texts
 pub mod Calls

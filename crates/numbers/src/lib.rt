@@ -5,12 +5,14 @@ ghost use Rattle.std.specs.Prelude.{◌≡◌};
 ghost use Rattle.rules.specs.Exported.{verdict};
 ghost use Rattle.rangeset.specs.Views.{outcome_of};
 ghost use Rattle.normal_text.specs.Views.{length_of};
-ghost use Rattle.admission.specs.Views.{answer_of};
+ghost use Rattle.refusals.specs.Views.{answer_of};
 ghost use Rattle.numbers.specs.Views.{outcome, length_is, verdict_is};
 
-use admission::Admission;
-use normal_text::NormalText;
-use rangeset::Reading;
+use rangeset::Counts;
+use refusals::Refusal;
+
+// What an exported call answers where the mode's number is none: no refusal of 01 and 02 has it.
+pub const NO_MODE: u64 = 255;
 
 // ---- the answers
 
@@ -25,7 +27,7 @@ pub fn put_no_counts(ranges: &mut usize, comparators: &mut usize, identifiers: &
 }
 
 pub fn put_counts(
-    r: Reading,
+    r: Result<Counts, Refusal>,
     ranges: &mut usize,
     comparators: &mut usize,
     identifiers: &mut usize,
@@ -33,49 +35,47 @@ pub fn put_counts(
     ensures { outcome result ranges.new comparators.new identifiers.new ≡ outcome_of r }
 {
     match r {
-        Reading::Accepted(c) => {
+        Ok(c) => {
             *ranges = c.ranges;
             *comparators = c.comparators;
             *identifiers = c.identifiers;
             0
         }
-        Reading::Refused(refusal) => {
+        Err(refusal) => {
             put_no_counts(ranges, comparators, identifiers);
-            refusal.number()
+            u64::from(refusal)
         }
     }
 }
 
-pub fn put_length(r: NormalText, len: &mut usize) -> u64
+pub fn put_length(r: Result<usize, Refusal>, len: &mut usize) -> u64
     ensures { length_is result len.new ≡ length_of r }
 {
     match r {
-        NormalText::Written(written) => {
+        Ok(written) => {
             *len = written;
             0
         }
-        NormalText::Refused(refusal) => {
+        Err(refusal) => {
             *len = 0;
-            refusal.number()
+            u64::from(refusal)
         }
     }
 }
 
-pub fn put_admitted(r: Admission, admitted: &mut u8) -> u64
-    ensures { verdict_is result admitted.new ≡ verdict (answer_of r) }
+// Yes or no.
+#[tactic(auto, unfolding(rules::specs::Exported::verdict))]
+pub fn put_verdict(r: Result<bool, Refusal>, yes: &mut u8) -> u64
+    ensures { verdict_is result yes.new ≡ verdict (answer_of r) }
 {
     match r {
-        Admission::Yes => {
-            *admitted = 1;
+        Ok(answer) => {
+            *yes = u8::from(answer);
             0
         }
-        Admission::No => {
-            *admitted = 0;
-            0
-        }
-        Admission::Refused(refusal) => {
-            *admitted = 0;
-            refusal.number()
+        Err(refusal) => {
+            *yes = 0;
+            u64::from(refusal)
         }
     }
 }

@@ -1,3 +1,3 @@
-pub mod Methods
 pub mod Unread
-pub mod Reading
+pub mod Opened
+pub mod Components

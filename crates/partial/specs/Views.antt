@@ -1,22 +1,29 @@
 -- What the code hands back of a partial: by which kind it is, its numbers as 64 bits hold them, and its identifiers by how many they are and
 -- where they begin.
 -- Assumes nothing.
-use Rattle.std.specs.Prelude.{ℕ, suc, List, [], ◌∷◌, ◌++◌, Bool, false, not, ◌||◌, length, take}
+use Rattle.std.specs.Prelude.{ℕ, suc, List, [], Bool, true, false, not, leb, ◌||◌, length, Option, Some, None}
+use Rattle.std.specs.Borrow.{Bor}
 use Rattle.std.proofs.Math.Option.{none}
-use Rattle.rules.specs.Bytes.{bytes, is_wild}
+use Rattle.rules.specs.Bytes.{bytes, is_wild, largest, pick}
 use Rattle.rules.specs.Syntax as S
-use Rattle.rules.specs.Parse.{Result, fail, ok, ◌then◌, one_of, literal, read_number, read_component, read_dot, after_three, after_two, after_one}
+use Rattle.rules.specs.Parse.{Result, fail, ok, ◌then◌, one_of, literal, after_three, after_two, after_one, found_in}
+use Rattle.rules.specs.Expansion as E
 use Rattle.rules.specs.Expansion.{major_of, minor_of, patch_of}
 use Rattle.rules.specs.Answers.{partial_fits}
-use Rattle.rules.specs.NormalText.{spell_op}
-use Rattle.lexer.specs.Views.{saturated, too_large}
 use Rattle.partial.specs.declared.PartialKind.{PartialKind}
 use Rattle.partial.specs.declared.PartialKind.TheVariants.{XRangeOnly, MajorOnly, MajorMinor, MajorMinorPatch}
 use Rattle.partial.specs.declared.Partial.{Partial}
 use Rattle.partial.specs.declared.Op.{Op}
 use Rattle.partial.specs.declared.Op.TheVariants.{Lt, Lte, Gt, Gte, Eq}
 use Rattle.partial.specs.declared.Comparator.{Comparator}
-use Rattle.partial.specs.declared.Spelling.{Spelling}
+
+-- ---- numbers as 64 bits hold them: a value above the largest is given as the largest, and marked
+
+abbrev pub saturated : ℕ → ℕ
+saturated v = pick (leb v largest) v largest
+
+abbrev pub too_large : ℕ → Bool
+too_large v = not (leb v largest)
 
 -- ---- operators
 
@@ -28,11 +35,6 @@ op_of Gt = S.gt
 op_of Gte = S.gte
 op_of Eq = S.eq
 
--- an operator's bytes, filled up with zeros to two
-unfoldable pub spelling_of : S.Op → Spelling
-unfolding spell_op
-spelling_of o = record { bytes = take 2 (spell_op o ++ (0 ∷ 0 ∷ [])); len = length (spell_op o) }
-
 -- ---- partials
 
 abbrev pub kind_of : S.Partial → PartialKind
@@ -41,15 +43,34 @@ kind_of (S.major_only a) = MajorOnly
 kind_of (S.major_minor a b) = MajorMinor
 kind_of (S.major_minor_patch a b c is) = MajorMinorPatch
 
--- identifiers that begin where n bytes are left, with their sign; 0 where there are none
-abbrev pub beginning : List S.Identifier → ℕ → ℕ
-beginning [] n = 0
-beginning (i ∷ is) n = n
+-- what the code holds of a partial, with its identifiers
+pub record Held : Type 0 where
+  pub kind : PartialKind
+  pub major : ℕ
+  pub minor : ℕ
+  pub patch : ℕ
+  pub large : Bool
+  pub over : Bool
+  pub count : ℕ
+  pub identifiers : List S.Identifier
 
--- a partial behind which left bytes are left, and whose qualifier begins where from bytes are left
-unfoldable pub held : S.Partial → ℕ → ℕ → Partial
+abbrev pub partial_is : Partial → Held
+partial_is p =
+    record {
+      kind = p.kind;
+      major = p.major;
+      minor = p.minor;
+      patch = p.patch;
+      large = p.large;
+      over = p.over;
+      count = p.count;
+      identifiers = found_in p.identifiers.now;
+    }
+
+-- what it is to hold of a partial
+unfoldable pub held : S.Partial → Held
 unfolding partial_fits
-held p from left =
+held p =
     record {
       kind = kind_of p;
       major = saturated (major_of p);
@@ -58,40 +79,36 @@ held p from left =
       large = not (partial_fits p);
       over = false;
       count = length (S.identifiers_of p);
-      from = beginning (S.identifiers_of p) from;
-      left = left;
+      identifiers = S.identifiers_of p;
     }
 
--- what is read, if anything; else a partial that takes nothing
-unfoldable pub partial_of : List ℕ → ℕ → Result S.Partial → Partial
-unfolding held
-partial_of s from fail = held S.x_range_only 0 (length s)
-partial_of s from (ok p r) = held p from (length r)
+abbrev pub partial_in : Option (Partial × Bor (List ℕ)) → Result Held
+partial_in None = fail
+partial_in (Some x) = ok (partial_is x.0) x.1.now
 
--- a component that is read may have been too large before
-abbrev pub marked : Bool → Partial → Partial
-marked large p =
-    record { kind = p.kind; major = p.major; minor = p.minor; patch = p.patch; large = large || p.large; over = p.over; count = p.count; from = p.from; left = p.left }
+abbrev pub partial_of : Result S.Partial → Result Held
+partial_of fail = fail
+partial_of (ok p r) = ok (held p) r
 
--- ---- where the qualifier begins: how many bytes are left there, behind three components, two, one and none
+-- of components, each with nothing where it is above the largest number
+abbrev pub value_or : Option ℕ → ℕ
+value_or None = largest
+value_or (Some v) = v
 
-abbrev pub on_rest : {A : Type 0} → (List ℕ → ℕ) → Result A → ℕ
-on_rest f fail = 0
-on_rest f (ok a r) = f r
+abbrev pub is_none : Option ℕ → Bool
+is_none None = true
+is_none (Some v) = false
 
-abbrev pub from_two : List ℕ → ℕ
-from_two s = on_rest length (read_dot s)
+abbrev pub of_components : PartialKind → Option ℕ → Option ℕ → Option ℕ → Held
+of_components k a b c =
+    record { kind = k; major = value_or a; minor = value_or b; patch = value_or c; large = is_none a || is_none b || is_none c; over = false; count = 0; identifiers = [] }
 
-abbrev pub from_one : List ℕ → ℕ
-from_one s = on_rest from_two (read_dot s)
+-- with so many identifiers
+abbrev pub qualified : Held → ℕ → List S.Identifier → Held
+qualified p n is =
+    record { kind = p.kind; major = p.major; minor = p.minor; patch = p.patch; large = p.large; over = p.over; count = n; identifiers = is }
 
-abbrev pub from_start : List ℕ → ℕ
-from_start s = on_rest from_one (read_component s)
-
--- ---- a dot, and a number or a wildcard
-
-unfoldable pub read_dot_number : List ℕ → Result (List ℕ)
-read_dot_number s = literal (bytes ".") s then λ u t. read_number t
+-- ---- a dot and a wildcard
 
 unfoldable pub read_dot_wildcard : List ℕ → Result ℕ
 read_dot_wildcard s = literal (bytes ".") s then λ u t. one_of is_wild t
@@ -109,10 +126,6 @@ wild_second s = read_dot_wildcard s then λ c t. after_two none none t
 unfoldable pub wild_first : List ℕ → Result S.Partial
 wild_first s = one_of is_wild s then λ c t. after_one none t
 
--- a partial that was partly read: its numbers fit, or one is marked
-abbrev pub partly_read : PartialKind → ℕ → ℕ → Bool → ℕ → Partial
-partly_read k a b large left = record { kind = k; major = a; minor = b; patch = 0; large = large; over = false; count = 0; from = 0; left = left }
-
 -- ---- the methods of a partial
 
 -- one more, or the largest where that is too large
@@ -120,39 +133,44 @@ abbrev pub incremented : ℕ → ℕ
 incremented v = saturated (suc v)
 
 -- the partial with other numbers
-abbrev pub renumbered : Partial → ℕ → ℕ → ℕ → Bool → Partial
+abbrev pub renumbered : Held → ℕ → ℕ → ℕ → Bool → Held
 renumbered p a b c over =
-    record { kind = p.kind; major = a; minor = b; patch = c; large = p.large; over = over; count = p.count; from = p.from; left = p.left }
+    record { kind = p.kind; major = a; minor = b; patch = c; large = p.large; over = over; count = p.count; identifiers = p.identifiers }
 
-abbrev pub inc_major : Partial → Partial
+abbrev pub inc_major : Held → Held
 inc_major p = renumbered p (incremented p.major) p.minor p.patch (p.over || too_large (suc p.major))
 
-abbrev pub inc_minor : Partial → Partial
+abbrev pub inc_minor : Held → Held
 inc_minor p = renumbered p p.major (incremented p.minor) p.patch (p.over || too_large (suc p.minor))
 
-abbrev pub inc_patch : Partial → Partial
+abbrev pub inc_patch : Held → Held
 inc_patch p = renumbered p p.major p.minor (incremented p.patch) (p.over || too_large (suc p.patch))
 
-abbrev pub zero_minor : Partial → Partial
+abbrev pub zero_minor : Held → Held
 zero_minor p = renumbered p p.major 0 p.patch p.over
 
-abbrev pub zero_patch : Partial → Partial
+abbrev pub zero_patch : Held → Held
 zero_patch p = renumbered p p.major p.minor 0 p.over
 
 -- the components behind those that were read, zero
-abbrev pub zero_behind : PartialKind → Partial → Partial
+abbrev pub zero_behind : PartialKind → Held → Held
 zero_behind XRangeOnly p = renumbered p 0 0 0 p.over
 zero_behind MajorOnly p = renumbered p p.major 0 0 p.over
 zero_behind MajorMinor p = zero_patch p
 zero_behind MajorMinorPatch p = p
 
-abbrev pub zero_missing : Partial → Partial
+abbrev pub zero_missing : Held → Held
 zero_missing p = zero_behind p.kind p
 
 -- without its identifiers
-abbrev pub no_pre : Partial → Partial
+abbrev pub no_pre : Held → Held
 no_pre p =
-    record { kind = p.kind; major = p.major; minor = p.minor; patch = p.patch; large = p.large; over = p.over; count = 0; from = 0; left = p.left }
+    record { kind = p.kind; major = p.major; minor = p.minor; patch = p.patch; large = p.large; over = p.over; count = 0; identifiers = [] }
 
 abbrev pub as_comparator : Partial → Op → Comparator
-as_comparator p o = record { op = o; major = p.major; minor = p.minor; patch = p.patch; count = p.count; over = p.over }
+as_comparator p o =
+    record { op = o; major = p.major; minor = p.minor; patch = p.patch; count = p.count; identifiers = p.identifiers; over = p.over }
+
+-- the rules' comparator for the code's
+abbrev pub comparator_is : Comparator → E.Comparator
+comparator_is c = E.comparator (op_of c.op) c.major c.minor c.patch (found_in c.identifiers.now)

@@ -2,32 +2,27 @@
 // missing is zero; the kind says which were read.
 #![tactic(auto)]
 
-ghost use Rattle.std.specs.Prelude.{◌≡◌, ◌≤◌, length};
-ghost use Rattle.std.proofs.Math.Option.{none, some};
+ghost use Rattle.std.specs.Prelude.{◌≡◌, Some, length};
+ghost use Rattle.std.proofs.Math.Option.{none};
 ghost use Rattle.rules.specs.Bytes.{is_wild};
-ghost use Rattle.rules.specs.Parse.{one_of, left_of, read_component, read_dot, after_three, after_two, after_one, read_partial};
+ghost use Rattle.rules.specs.Syntax.{x_range_only};
+ghost use Rattle.rules.specs.Parse.{found_in, one_of, read_component, read_dot, after_two, after_one, read_partial};
 ghost use Rattle.rules.specs.Rows.{op_code};
-ghost use Rattle.lexer.specs.Views.{number_of};
-ghost use Rattle.partial.specs.Views.{op_of, spelling_of, partial_of, marked, from_two, from_one, from_start, wild_third, wild_second, wild_first, partly_read, read_dot_number, read_dot_wildcard, inc_major, inc_minor, inc_patch, zero_minor, zero_patch, no_pre, zero_missing, as_comparator};
+ghost use Rattle.rules.specs.NormalText.{spell_op};
+ghost use Rattle.lexer.specs.Views.{rest_in, rest_of};
+ghost use Rattle.partial.specs.Views.{op_of, partial_is, partial_in, partial_of, held, of_components, qualified, wild_third, wild_second, wild_first, read_dot_wildcard, inc_major, inc_minor, inc_patch, zero_minor, zero_patch, no_pre, zero_missing, as_comparator};
 
-use lexer::Number;
+use lexer::{Qualifier, read_dot_number, read_number, skip_dot, skip_number, skip_qualifier};
 
 // ---- operators
 
-#[derive(Clone, Copy)]
+#[derive(Clone, Copy, PartialEq, Eq)]
 pub enum Op {
     Lt,
     Lte,
     Gt,
     Gte,
     Eq,
-}
-
-// The first len of the bytes; the others are 0.
-#[derive(Clone, Copy)]
-pub struct Spelling {
-    pub bytes: [u8; 2],
-    pub len: usize,
 }
 
 impl Op {
@@ -53,30 +48,16 @@ impl Op {
         }
     }
 
-    pub fn spelling(self) -> Spelling
-        ensures { result ≡ spelling_of (op_of self) }
+    #[tactic(auto, unfolding(rules::specs::NormalText::spell_op))]
+    pub fn spelling(self) -> &'static [u8]
+        ensures { result.now ≡ spell_op (op_of self) }
     {
         match self {
-            Op::Lt => Spelling {
-                bytes: [b'<', 0],
-                len: 1,
-            },
-            Op::Lte => Spelling {
-                bytes: [b'<', b'='],
-                len: 2,
-            },
-            Op::Gt => Spelling {
-                bytes: [b'>', 0],
-                len: 1,
-            },
-            Op::Gte => Spelling {
-                bytes: [b'>', b'='],
-                len: 2,
-            },
-            Op::Eq => Spelling {
-                bytes: [b'=', 0],
-                len: 1,
-            },
+            Op::Lt => b"<",
+            Op::Lte => b"<=",
+            Op::Gt => b">",
+            Op::Gte => b">=",
+            Op::Eq => b"=",
         }
     }
 }
@@ -92,10 +73,10 @@ pub enum PartialKind {
     MajorMinorPatch,
 }
 
-// Where a component that was read is above the largest number, large; where one could not be raised, over. The identifiers are count many;
-// their qualifier begins where from bytes of the text are left. Behind the partial left bytes are left.
+// A component that was read and is above the largest number is given as that, and marked: large. Where one could not be raised, over. The
+// identifiers are count many, and what the text of that name begins with; where there are none, it is empty.
 #[derive(Clone, Copy)]
-pub struct Partial {
+pub struct Partial<'a> {
     pub kind: PartialKind,
     pub major: u64,
     pub minor: u64,
@@ -103,24 +84,58 @@ pub struct Partial {
     pub large: bool,
     pub over: bool,
     pub count: usize,
-    pub from: usize,
-    pub left: usize,
+    pub identifiers: &'a [u8],
 }
 
-// An operator, the numbers, and how many identifiers; over as in the partial.
+// An operator, the numbers, and the identifiers; over as in the partial.
 #[derive(Clone, Copy)]
-pub struct Comparator {
+pub struct Comparator<'a> {
     pub op: Op,
     pub major: u64,
     pub minor: u64,
     pub patch: u64,
     pub count: usize,
+    pub identifiers: &'a [u8],
     pub over: bool,
 }
 
-impl Partial {
-    pub fn as_comparator(self, op: Op) -> Comparator
-        ensures { result ≡ as_comparator self op }
+impl<'a> Partial<'a> {
+    // Of these components, each with nothing where it is above the largest number; those that are missing are 0.
+    #[tactic(auto, unfolding(crate::proofs::Opened::nothing))]
+    fn new(kind: PartialKind, major: Option<u64>, minor: Option<u64>, patch: Option<u64>) -> Self
+        ensures { partial_is result ≡ of_components kind major minor patch }
+    {
+        Partial {
+            kind,
+            major: major.unwrap_or(u64::MAX),
+            minor: minor.unwrap_or(u64::MAX),
+            patch: patch.unwrap_or(u64::MAX),
+            large: major.is_none() | minor.is_none() | patch.is_none(),
+            over: false,
+            count: 0,
+            identifiers: &[],
+        }
+    }
+
+    // No component is read.
+    #[tactic(auto, unfolding(crate::proofs::Opened::readers))]
+    pub fn zero() -> Self
+        ensures { partial_is result ≡ held x_range_only }
+    {
+        Partial::new(PartialKind::XRangeOnly, Some(0), Some(0), Some(0))
+    }
+
+    // With the identifiers of a qualifier.
+    fn qualified(mut self, qualifier: Qualifier<'a>) -> Self
+        ensures { partial_is result ≡ qualified (partial_is self.entry) qualifier.entry.count (found_in qualifier.entry.identifiers.now) }
+    {
+        self.count = qualifier.count;
+        self.identifiers = qualifier.identifiers;
+        self
+    }
+
+    pub fn as_comparator(self, op: Op) -> Comparator<'a>
+        ensures { result ≡ as_comparator self.entry op }
     {
         Comparator {
             op,
@@ -128,12 +143,13 @@ impl Partial {
             minor: self.minor,
             patch: self.patch,
             count: self.count,
+            identifiers: self.identifiers,
             over: self.over,
         }
     }
 
-    pub fn inc_major(mut self) -> Partial
-        ensures { result ≡ inc_major self }
+    pub fn inc_major(mut self) -> Partial<'a>
+        ensures { partial_is result ≡ inc_major (partial_is self.entry) }
     {
         if self.major == 18446744073709551615 {
             self.over = true;
@@ -143,8 +159,8 @@ impl Partial {
         self
     }
 
-    pub fn inc_minor(mut self) -> Partial
-        ensures { result ≡ inc_minor self }
+    pub fn inc_minor(mut self) -> Partial<'a>
+        ensures { partial_is result ≡ inc_minor (partial_is self.entry) }
     {
         if self.minor == 18446744073709551615 {
             self.over = true;
@@ -154,8 +170,8 @@ impl Partial {
         self
     }
 
-    pub fn inc_patch(mut self) -> Partial
-        ensures { result ≡ inc_patch self }
+    pub fn inc_patch(mut self) -> Partial<'a>
+        ensures { partial_is result ≡ inc_patch (partial_is self.entry) }
     {
         if self.patch == 18446744073709551615 {
             self.over = true;
@@ -165,8 +181,8 @@ impl Partial {
         self
     }
 
-    pub fn zero_missing(mut self) -> Partial
-        ensures { result ≡ zero_missing self }
+    pub fn zero_missing(mut self) -> Partial<'a>
+        ensures { partial_is result ≡ zero_missing (partial_is self.entry) }
     {
         let kind = self.kind;
         match kind {
@@ -189,259 +205,144 @@ impl Partial {
         }
     }
 
-    pub fn zero_minor(mut self) -> Partial
-        ensures { result ≡ zero_minor self }
+    pub fn zero_minor(mut self) -> Partial<'a>
+        ensures { partial_is result ≡ zero_minor (partial_is self.entry) }
     {
         self.minor = 0;
         self
     }
 
-    pub fn zero_patch(mut self) -> Partial
-        ensures { result ≡ zero_patch self }
+    pub fn zero_patch(mut self) -> Partial<'a>
+        ensures { partial_is result ≡ zero_patch (partial_is self.entry) }
     {
         self.patch = 0;
         self
     }
 
-    pub fn no_pre(mut self) -> Partial
-        ensures { result ≡ no_pre self }
+    #[tactic(auto, unfolding(crate::proofs::Opened::nothing))]
+    pub fn no_pre(mut self) -> Partial<'a>
+        ensures { partial_is result ≡ no_pre (partial_is self.entry) }
     {
         self.count = 0;
-        self.from = 0;
+        self.identifiers = &[];
         self
     }
 }
 
-// ---- what stands behind a wildcard: not read, and well formed all the same. How many bytes are left behind it
+// ---- what stands behind a wildcard: not read, and well formed all the same
 
-fn skip_wildcard(s: &[u8]) -> usize
-    ensures value { result ≡ left_of s.now (one_of is_wild s.now) }
-    ensures within { result ≤ length s.now }
+#[tactic(auto, unfolding(crate::proofs::Opened::readers))]
+fn skip_wildcard(s: &[u8]) -> Option<&[u8]>
+    ensures { rest_in result ≡ rest_of (one_of is_wild s.now) }
 {
-    if s.len() == 0 {
-        return 0;
+    match s {
+        [b, left @ ..] if lexer::is_wild(*b) => Some(left),
+        _ => None,
     }
-    if lexer::is_wild(s[0]) {
-        return s.len() - 1;
-    }
-    s.len()
 }
 
-fn skip_component(s: &[u8]) -> usize
-    ensures value { result ≡ left_of s.now (read_component s.now) }
-    ensures within { result ≤ length s.now }
+#[tactic(auto, unfolding(crate::proofs::Opened::readers))]
+fn skip_component(s: &[u8]) -> Option<&[u8]>
+    ensures { rest_in result ≡ rest_of (read_component s.now) }
 {
-    let n = lexer::skip_number(s);
-    if n == s.len() {
-        return skip_wildcard(s);
+    match skip_wildcard(s) {
+        Some(left) => Some(left),
+        None => skip_number(s),
     }
-    n
 }
 
 // A dot and a component.
-fn skip_dot(s: &[u8]) -> usize
-    ensures value { result ≡ left_of s.now (read_dot s.now) }
-    ensures within { result ≤ length s.now }
+#[tactic(auto, unfolding(crate::proofs::Opened::readers))]
+fn skip_dot_component(s: &[u8]) -> Option<&[u8]>
+    ensures { rest_in result ≡ rest_of (read_dot s.now) }
 {
-    if s.len() == 0 {
-        return 0;
-    }
-    if s[0] == b'.' {
-        let n = skip_component(&s[1..]);
-        if n == s.len() - 1 {
-            return s.len();
-        }
-        return n;
-    }
-    s.len()
+    skip_component(skip_dot(s)?)
 }
 
 // A dot and a wildcard.
-fn skip_dot_wildcard(s: &[u8]) -> usize
-    ensures value { result ≡ left_of s.now (read_dot_wildcard s.now) }
-    ensures within { result ≤ length s.now }
+#[tactic(auto, unfolding(crate::proofs::Opened::readers))]
+fn skip_dot_wildcard(s: &[u8]) -> Option<&[u8]>
+    ensures { rest_in result ≡ rest_of (read_dot_wildcard s.now) }
 {
-    if s.len() == 0 {
-        return 0;
-    }
-    if s[0] == b'.' {
-        let n = skip_wildcard(&s[1..]);
-        if n == s.len() - 1 {
-            return s.len();
-        }
-        return n;
-    }
-    s.len()
+    skip_wildcard(skip_dot(s)?)
 }
 
 // Behind the second component.
-fn skip_after_two(s: &[u8]) -> usize
-    ensures value { result ≡ left_of s.now (after_two none none s.now) }
-    ensures within { result ≤ length s.now }
+#[tactic(auto, unfolding(crate::proofs::Opened::readers))]
+fn skip_after_two(s: &[u8]) -> &[u8]
+    ensures { Some result.now ≡ rest_of (after_two none none s.now) }
 {
-    let n = skip_dot(s);
-    if n == s.len() {
-        return n;
+    match skip_dot_component(s) {
+        Some(left) => skip_qualifier(left).left,
+        None => s,
     }
-    let at = s.len() - n;
-    let q = lexer::skip_qualifier(&s[at..]);
-    q.left
 }
 
 // Behind the first component.
-fn skip_after_one(s: &[u8]) -> usize
-    ensures value { result ≡ left_of s.now (after_one none s.now) }
-    ensures within { result ≤ length s.now }
+#[tactic(auto, unfolding(crate::proofs::Opened::readers))]
+fn skip_after_one(s: &[u8]) -> &[u8]
+    ensures { Some result.now ≡ rest_of (after_one none s.now) }
 {
-    let n = skip_dot(s);
-    if n == s.len() {
-        return n;
+    match skip_dot_component(s) {
+        Some(left) => skip_after_two(left),
+        None => s,
     }
-    let at = s.len() - n;
-    skip_after_two(&s[at..])
 }
 
-// Behind two numbers: a wildcard and what follows it, or nothing.
-fn skip_third(s: &[u8]) -> usize
-    ensures { result ≡ left_of s.now (wild_third s.now) }
+// A wildcard as the third component, and what follows it.
+#[tactic(auto, unfolding(crate::proofs::Opened::readers))]
+fn skip_third(s: &[u8]) -> Option<&[u8]>
+    ensures { rest_in result ≡ rest_of (wild_third s.now) }
 {
-    let n = skip_dot_wildcard(s);
-    if n == s.len() {
-        return n;
-    }
-    let behind = s.len() - n;
-    let q = lexer::skip_qualifier(&s[behind..]);
-    q.left
+    let left = skip_dot_wildcard(s)?;
+    Some(skip_qualifier(left).left)
 }
 
-// Behind one number.
-fn skip_second(s: &[u8]) -> usize
-    ensures { result ≡ left_of s.now (wild_second s.now) }
+// As the second.
+#[tactic(auto, unfolding(crate::proofs::Opened::readers))]
+fn skip_second(s: &[u8]) -> Option<&[u8]>
+    ensures { rest_in result ≡ rest_of (wild_second s.now) }
 {
-    let n = skip_dot_wildcard(s);
-    if n == s.len() {
-        return n;
-    }
-    let behind = s.len() - n;
-    skip_after_two(&s[behind..])
+    let left = skip_dot_wildcard(s)?;
+    Some(skip_after_two(left))
 }
 
-// Where no number stands.
-fn skip_first(s: &[u8]) -> usize
-    ensures { result ≡ left_of s.now (wild_first s.now) }
+// As the first.
+#[tactic(auto, unfolding(crate::proofs::Opened::readers))]
+fn skip_first(s: &[u8]) -> Option<&[u8]>
+    ensures { rest_in result ≡ rest_of (wild_first s.now) }
 {
-    let n = skip_wildcard(s);
-    if n == s.len() {
-        return n;
-    }
-    let behind = s.len() - n;
-    skip_after_one(&s[behind..])
+    let left = skip_wildcard(s)?;
+    Some(skip_after_one(left))
 }
 
 // ---- a partial: each component that is a number is read, up to the first that is none
 
-// A dot and a number.
-pub fn read_dot_number(s: &[u8]) -> Number
-    ensures value { result ≡ number_of s.now (read_dot_number s.now) }
-    ensures within { result.left ≤ length s.now }
+// A partial, and what is left behind it.
+#[tactic(auto, unfolding(crate::proofs::Opened::readers))]
+pub fn read_partial(s: &[u8]) -> Option<(Partial<'_>, &[u8])>
+    ensures { partial_in result ≡ partial_of (read_partial s.now) }
 {
-    if s.len() == 0 {
-        return Number {
-            value: 0,
-            large: false,
-            left: 0,
-        };
-    }
-    if s[0] == b'.' {
-        let n = lexer::read_number(&s[1..]);
-        if n.left == s.len() - 1 {
-            return Number {
-                value: 0,
-                large: false,
-                left: s.len(),
-            };
-        }
-        return n;
-    }
-    Number {
-        value: 0,
-        large: false,
-        left: s.len(),
-    }
-}
-
-// A partial of which not all was read.
-fn partly(kind: PartialKind, major: u64, minor: u64, large: bool, left: usize) -> Partial
-    ensures { result ≡ partly_read kind major minor large left }
-{
-    Partial {
-        kind,
-        major,
-        minor,
-        patch: 0,
-        large,
-        over: false,
-        count: 0,
-        from: 0,
-        left,
-    }
-}
-
-// Behind three numbers: the qualifier.
-fn after_three(s: &[u8], major: u64, minor: u64, patch: u64, large: bool) -> Partial
-    ensures { result ≡ marked large (partial_of s.now (length s.now) (after_three (some major) (some minor) (some patch) s.now)) }
-{
-    let q = lexer::skip_qualifier(s);
-    let mut from = 0;
-    if q.count != 0 {
-        from = s.len();
-    }
-    Partial {
-        kind: PartialKind::MajorMinorPatch,
-        major,
-        minor,
-        patch,
-        large,
-        over: false,
-        count: q.count,
-        from,
-        left: q.left,
-    }
-}
-
-// Behind two numbers.
-fn after_two(s: &[u8], major: u64, minor: u64, large: bool) -> Partial
-    ensures { result ≡ marked large (partial_of s.now (from_two s.now) (after_two (some major) (some minor) s.now)) }
-{
-    let n = read_dot_number(s);
-    if n.left == s.len() {
-        return partly(PartialKind::MajorMinor, major, minor, large, skip_third(s));
-    }
-    let at = s.len() - n.left;
-    after_three(&s[at..], major, minor, n.value, large | n.large)
-}
-
-// Behind one number.
-fn after_one(s: &[u8], major: u64, large: bool) -> Partial
-    ensures { result ≡ marked large (partial_of s.now (from_one s.now) (after_one (some major) s.now)) }
-{
-    let n = read_dot_number(s);
-    if n.left == s.len() {
-        return partly(PartialKind::MajorOnly, major, 0, large, skip_second(s));
-    }
-    let at = s.len() - n.left;
-    after_two(&s[at..], major, n.value, large | n.large)
-}
-
-// A partial; where there is none, nothing is taken.
-pub fn read_partial(s: &[u8]) -> Partial
-    ensures value { result ≡ partial_of s.now (from_start s.now) (read_partial s.now) }
-    ensures within { result.left ≤ length s.now }
-{
-    let n = lexer::read_number(s);
-    if n.left == s.len() {
-        return partly(PartialKind::XRangeOnly, 0, 0, false, skip_first(s));
-    }
-    let at = s.len() - n.left;
-    after_one(&s[at..], n.value, n.large)
+    let Some(major) = read_number(s) else {
+        let left = skip_first(s)?;
+        return Some((Partial::zero(), left));
+    };
+    let Some(minor) = read_dot_number(major.left) else {
+        let left = skip_second(major.left).unwrap_or(major.left);
+        let p = Partial::new(PartialKind::MajorOnly, major.value, Some(0), Some(0));
+        return Some((p, left));
+    };
+    let Some(patch) = read_dot_number(minor.left) else {
+        let left = skip_third(minor.left).unwrap_or(minor.left);
+        let p = Partial::new(PartialKind::MajorMinor, major.value, minor.value, Some(0));
+        return Some((p, left));
+    };
+    let q = skip_qualifier(patch.left);
+    let p = Partial::new(
+        PartialKind::MajorMinorPatch,
+        major.value,
+        minor.value,
+        patch.value,
+    );
+    Some((p.qualified(q), q.left))
 }

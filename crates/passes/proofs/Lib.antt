@@ -1,7 +1,6 @@
-pub mod Raising
 pub mod Turn
-pub mod Qualified
 pub mod Passing
-pub mod Due
 pub mod Folds
+pub mod Due
+pub mod Ends
 pub mod Extending

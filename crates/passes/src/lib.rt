@@ -2,135 +2,46 @@
 // numbers as they were read and one with a component raised.
 #![tactic(auto)]
 
-ghost use Rattle.std.specs.Prelude.{◌≡◌, ◌≤◌};
-ghost use Rattle.rules.specs.Walk.{goes_on};
-ghost use Rattle.walk.specs.Views.{stage_of};
-ghost use Rattle.passes.specs.Views.{is_end, opened, kept_count, raised_count, comparator_count_of, kept_with, raised_to, Raisable};
+ghost use Rattle.std.specs.Prelude.{◌≡◌, ◌≤◌, length};
+ghost use Rattle.partial.specs.Views.{partial_is};
+ghost use Rattle.range.specs.Views.{raised_partial};
+ghost use Rattle.walk.specs.Views.{step_is};
+ghost use Rattle.passes.specs.Views.{listed, counted, kept_gives, raised_gives, step_gives, over_of};
 
 use partial::{Comparator, Op};
-use range::{Kept, Raised};
-use walk::{Stage, Step};
+use range::raise;
+use walk::Step;
 
-// ---- the loop
-
-pub fn goes_on(stage: Stage) -> bool
-    ensures { result ≡ goes_on (stage_of stage) }
+// The comparator with the numbers as they were read, if there is one.
+pub fn as_read<'a>(x: &Step<'a>) -> Option<Comparator<'a>>
+    ensures answer { listed result ≡ kept_gives (step_is x.now) }
+    ensures count { counted x.now.partial.count result }
 {
-    match stage {
-        Stage::Item => true,
-        Stage::Range => true,
-        Stage::Right => true,
-        Stage::Only => true,
-        Stage::End => false,
-        Stage::Bad => false,
+    Some(x.partial.as_comparator(x.kept?))
+}
+
+// The one below the raised component, if there is one.
+pub fn raised<'a>(x: &Step<'a>) -> Option<Comparator<'a>>
+    ensures answer { listed result ≡ raised_gives (step_is x.now) }
+    ensures count { counted (raised_partial x.now.raised (partial_is x.now.partial)).count result }
+{
+    match x.raised {
+        Some(_) => Some(raise(x.partial, x.raised).as_comparator(Op::Lt)),
+        None => None,
     }
 }
 
-pub fn is_end(stage: Stage) -> bool
-    ensures { result ≡ is_end (stage_of stage) }
+// The component that is raised cannot be.
+pub fn is_over(x: &Step<'_>) -> bool
+    ensures { result ≡ over_of (step_is x.now) }
 {
-    match stage {
-        Stage::Item => false,
-        Stage::Range => false,
-        Stage::Right => false,
-        Stage::Only => false,
-        Stage::End => true,
-        Stage::Bad => false,
-    }
+    raise(x.partial, x.raised).over
 }
 
-// How many ranges a step at this stage begins.
-pub fn opened(stage: Stage) -> usize
-    ensures value { result ≡ opened (stage_of stage) }
-    ensures small { result ≤ 1 }
-{
-    match stage {
-        Stage::Item => 0,
-        Stage::Range => 1,
-        Stage::Right => 0,
-        Stage::Only => 0,
-        Stage::End => 0,
-        Stage::Bad => 0,
-    }
-}
-
-// ---- the comparators of a step
-
-pub fn kept_count(kept: Kept) -> usize
-    ensures value { result ≡ kept_count kept }
-    ensures small { result ≤ 1 }
-{
-    match kept {
-        Kept::Op(op) => 1,
-        Kept::Nothing => 0,
-    }
-}
-
-pub fn raised_count(raised: Raised) -> usize
-    ensures value { result ≡ raised_count raised }
-    ensures small { result ≤ 1 }
-{
-    match raised {
-        Raised::Major => 1,
-        Raised::Minor => 1,
-        Raised::Patch => 1,
-        Raised::Nothing => 0,
-    }
-}
-
-pub fn comparator_count(x: Step) -> usize
-    ensures value { result ≡ comparator_count_of x }
+#[tactic(auto, unfolding(crate::specs::Views::step_gives))]
+pub fn comparator_count(x: &Step<'_>) -> usize
+    ensures value { result ≡ length (step_gives (step_is x.now)) }
     ensures small { result ≤ 2 }
 {
-    let kept = x.kept;
-    let raised = x.raised;
-    kept_count(kept) + raised_count(raised)
-}
-
-// The numbers as they were read, under this operator.
-pub fn kept_with(op: Op, x: Step) -> Comparator
-    ensures { result ≡ kept_with op x }
-{
-    Comparator {
-        op,
-        major: x.major,
-        minor: x.minor,
-        patch: x.patch,
-        count: x.count,
-        over: false,
-    }
-}
-
-// Below the raised component; where none is raised, below zero.
-pub fn raised_to(x: Step) -> Comparator
-    requires { Raisable x.raised x }
-    ensures { result ≡ raised_to x.raised x }
-{
-    let raised = x.raised;
-    let mut major = 0;
-    let mut minor = 0;
-    let mut patch = 0;
-    match raised {
-        Raised::Major => {
-            major = x.major + 1;
-        }
-        Raised::Minor => {
-            major = x.major;
-            minor = x.minor + 1;
-        }
-        Raised::Patch => {
-            major = x.major;
-            minor = x.minor;
-            patch = x.patch + 1;
-        }
-        Raised::Nothing => {}
-    }
-    Comparator {
-        op: Op::Lt,
-        major,
-        minor,
-        patch,
-        count: 0,
-        over: false,
-    }
+    usize::from(x.kept.is_some()) + usize::from(x.raised.is_some())
 }

@@ -15,12 +15,11 @@ use Rattle.rules.proofs.PlainformLaws.{never-7}
 use Rattle.rows.specs.Put.{Put}
 use Rattle.rows.proofs.Puts.{put-part}
 use Rattle.rows.proofs.Stores.{part-back, sets-onto}
-use Rattle.rangeset.specs.Views.{number_of}
-use Rattle.rangeset.specs.declared.Refusal.{Refusal}
+use Rattle.std.specs.Prelude.{Result, Ok, Err}
+use Rattle.refusals.specs.Views.{number_of}
+use Rattle.refusals.specs.declared.Refusal.{Refusal}
 use Rattle.rangeset.proofs.Outcomes.{refusal-number}
 use Rattle.normal_text.specs.Views.{length_of}
-use Rattle.normal_text.specs.declared.NormalText.{NormalText}
-use Rattle.normal_text.specs.declared.NormalText.TheVariants as T
 
 -- ---- put_refusal
 
@@ -44,19 +43,19 @@ module _ (m : Compat) (t : List ℕ) where
     pub is : normal_text m t ≡ accepted text
     pub long : n ≡ length text
 
-  spelled : (n : ℕ) → length_of (T.Written n) ≡ normal_text_outcome (normal_text m t) → Spelled n
+  spelled : (n : ℕ) → length_of (Ok n) ≡ normal_text_outcome (normal_text m t) → Spelled n
   unfolding normal_text normal_text_outcome
   spelled n e = go (reading m t) refl e
     where
-      go : (a : Answer Reading) → reading m t ≡ a → length_of (T.Written n) ≡ normal_text_outcome (map_answer spell a) → Spelled n
+      go : (a : Answer Reading) → reading m t ≡ a → length_of (Ok n) ≡ normal_text_outcome (map_answer spell a) → Spelled n
       go (accepted rs) q e = record { text = spell rs; is = rw q; long = ap (λ x. x.length) e }
       go (refused k) q e = absurd (reading-number m t k q (sym (ap (λ x. x.refusal) e)))
 
-  unspelled : (r : Refusal) → length_of (T.Refused r) ≡ normal_text_outcome (normal_text m t) → normal_text m t ≡ refused (number_of r)
+  unspelled : (r : Refusal) → length_of (Err r) ≡ normal_text_outcome (normal_text m t) → normal_text m t ≡ refused (number_of r)
   unfolding normal_text_outcome
   unspelled r e = go (normal_text m t) e
     where
-      go : (a : Answer (List ℕ)) → length_of (T.Refused r) ≡ normal_text_outcome a → a ≡ refused (number_of r)
+      go : (a : Answer (List ℕ)) → length_of (Err r) ≡ normal_text_outcome a → a ≡ refused (number_of r)
       go (accepted w) e = absurd (refusal-number r (ap (λ x. x.refusal) e))
       go (refused k) e = ap refused (sym (ap (λ x. x.refusal) e))
 
@@ -71,8 +70,8 @@ module _ (m : Compat) (t : List ℕ) where
     enough : normal_text_call m t (length part) ≡ normal_text m t
     enough = never-7 m t (length part) part_room
 
-    module _ (r : NormalText) (e : length_of r ≡ normal_text_outcome (normal_text_call m t (length part))) where
-      module _ (n : ℕ) (q : r ≡ T.Written n) where
+    module _ (r : Result ℕ Refusal) (e : length_of r ≡ normal_text_outcome (normal_text_call m t (length part))) where
+      module _ (n : ℕ) (q : r ≡ Ok n) where
         given : Spelled n
         given = spelled n (ap length_of (sym q) ∙ e ∙ ap normal_text_outcome enough)
 
@@ -91,7 +90,7 @@ module _ (m : Compat) (t : List ℕ) where
             let s = b ∙ ap (λ a. bytes_after a part) (enough ∙ given.is) ∙ sym o in
             put-part {y = y} (record { stored = rw given.is s; place = omega (arith, spelled-length) })
 
-      module _ (x : Refusal) (q : r ≡ T.Refused x) where
+      module _ (x : Refusal) (q : r ≡ Err x) where
         none : normal_text m t ≡ refused (number_of x)
         none = unspelled x (ap length_of (sym q) ∙ e ∙ ap normal_text_outcome enough)
 

@@ -7,11 +7,11 @@ ghost use Rattle.rules.specs.Answers.{refused, normal_text};
 ghost use Rattle.rules.specs.Plainform.{without_newline, mode_letters, spell_answer, mode_line, mode_lines, plainform, room};
 ghost use Rattle.range.specs.Views.{compat_of};
 ghost use Rattle.rows.specs.Put.{Put};
-ghost use Rattle.rangeset.specs.Views.{number_of};
+ghost use Rattle.refusals.specs.Views.{number_of};
 
-use normal_text::{NormalText, normal_text};
+use normal_text::normal_text;
 use range::Compat;
-use rangeset::Refusal;
+use refusals::Refusal;
 use spelling::{put_bytes, put_refused};
 
 // How many bytes are enough for the lines of every input: `room` of the rules.
@@ -19,6 +19,7 @@ pub const ROOM: usize = 65562;
 
 // ---- the input
 
+#[tactic(auto, using(crate::proofs::Inputs::inputs))]
 fn without_newline<'a>(input: &'a [u8]) -> &'a [u8]
     ensures { result.now ≡ without_newline input.now }
 {
@@ -49,21 +50,22 @@ fn put_refusal(out: &mut [u8], at: usize, refusal: Refusal) -> usize
     requires { at + length (spell_answer (refused (number_of refusal))) ≤ length out.old }
     ensures { Put out.old at (spell_answer (refused (number_of refusal))) out.new result }
 {
-    put_refused(out, at, refusal.number())
+    put_refused(out, at, u64::from(refusal))
 }
 
 // The normal text, or the refusal, which is never 7: the bytes that are lent are enough.
+#[tactic(auto, using(crate::proofs::Answering::answers))]
 fn put_answer(text: &[u8], compat: Compat, out: &mut [u8], at: usize) -> usize
     requires { at + length (spell_answer (normal_text (compat_of compat) text.now)) ≤ length out.old }
     ensures { Put out.old at (spell_answer (normal_text (compat_of compat) text.now)) out.new result }
 {
-    let r = normal_text(text, compat, &mut out[at..]);
-    match r {
-        NormalText::Written(len) => at + len,
-        NormalText::Refused(refusal) => put_refusal(out, at, refusal),
+    match normal_text(text, compat, &mut out[at..]) {
+        Ok(len) => at + len,
+        Err(refusal) => put_refusal(out, at, refusal),
     }
 }
 
+#[tactic(auto, using(crate::proofs::Lines::lines))]
 fn put_line(text: &[u8], compat: Compat, out: &mut [u8], at: usize) -> usize
     requires { at + length (mode_line (compat_of compat) text.now) ≤ length out.old }
     ensures { Put out.old at (mode_line (compat_of compat) text.now) out.new result }
@@ -85,6 +87,7 @@ fn put_lines(text: &[u8], out: &mut [u8]) -> usize
 }
 
 // What the program writes, at the start of out; answers how many bytes that is.
+#[tactic(auto, using(crate::proofs::Lines::programs))]
 pub fn plainform(input: &[u8], out: &mut [u8]) -> usize
     requires { room ≤ length out.old }
     ensures put { Put out.old 0 (plainform input.now) out.new result }

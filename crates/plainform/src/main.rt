@@ -1,13 +1,19 @@
 // The program `plainform`: reads a range text from standard input, and writes its normal text or its refusal under each mode.
 #![tactic(auto)]
 
+use std::io;
+use std::io::Write;
 use std::time::Clock;
-use streams::Input;
+use streams::{Failure, Output};
 
-fn answer(rt: &(impl Print + Eprint + Clock), input: &[u8]) {
+fn run(rt: &(impl io::Input + Print + Clock)) -> Result<(), Failure> {
+    // 4,096 bytes, a 0A and one byte more: what follows them changes nothing.
+    let mut input = [0u8; 4098];
+    let n = streams::read_all(rt, &mut input).map_err(Failure::Input)?;
     let mut out = [0u8; plain::ROOM];
-    let len = plain::plainform(input, &mut out);
-    streams::print(rt, b"plainform", &out[..len]);
+    let len = plain::plainform(&input[..n], &mut out);
+    let written = Output(rt).write_all(&out[..len]);
+    written.map_err(Failure::Output)
 }
 
 fn main(rt: HostRuntime) {
@@ -15,11 +21,5 @@ fn main(rt: HostRuntime) {
         streams::put_usage(&rt, b"plainform", b"plainform < RANGE\n");
         return;
     }
-    // 4,096 bytes, a 0A and one byte more: what follows them changes nothing.
-    let mut input = [0u8; 4098];
-    let r = streams::read_all(&rt, &mut input);
-    match r {
-        Input::Bytes(n) => answer(&rt, &input[..n]),
-        Input::Failed(error) => streams::cannot_read(&rt, b"plainform", error),
-    }
+    streams::tell(&rt, b"plainform", run(&rt));
 }

@@ -1,7 +1,3 @@
-pub mod OrderLaws
-pub mod ByteLaws
-pub mod TextLaws
-pub mod SeriesLaws
+pub mod Orders
 pub mod VersionIdentifiers
-pub mod FirstLaws
 pub mod Comparing

@@ -1,5 +1,2 @@
+pub mod Opened
 pub mod Modes
-pub mod Leads
-pub mod Shapes
-pub mod Expansions
-pub mod Raising

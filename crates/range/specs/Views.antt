@@ -1,23 +1,24 @@
 -- What the code hands back of a prefix, and of an expansion: which comparators a partial gives, but for the partial.
 -- Assumes nothing.
-use Rattle.std.specs.Prelude.{ℕ, List, [], length}
-use Rattle.std.proofs.Math.Option.{Option, none, some}
+use Rattle.std.specs.Prelude as Std
+use Rattle.std.specs.Prelude.{ℕ, List, [], Option, Some, None, Ok, Err}
+use Rattle.std.specs.Borrow.{Bor}
+use Rattle.std.proofs.Math.Option as Math
+use Rattle.std.proofs.Math.Option.{none, some}
 use Rattle.rules.specs.Syntax as S
-use Rattle.rules.specs.Parse.{Result, fail, ok}
+use Rattle.rules.specs.Parse.{Result, fail, ok, choose, literal}
 use Rattle.rules.specs.Expansion as E
-use Rattle.partial.specs.Views.{op_of, inc_major, inc_minor, inc_patch, zero_minor, zero_patch, no_pre}
+use Rattle.partial.specs.Views.{Held, op_of, inc_major, inc_minor, inc_patch, zero_minor, zero_patch, no_pre}
 use Rattle.partial.specs.declared.Op.{Op}
 use Rattle.partial.specs.declared.Op.TheVariants.{Lt, Lte, Gt, Gte, Eq}
-use Rattle.partial.specs.declared.Partial.{Partial}
 use Rattle.partial.specs.declared.PartialKind.{PartialKind}
 use Rattle.partial.specs.declared.PartialKind.TheVariants.{XRangeOnly, MajorOnly, MajorMinor, MajorMinorPatch}
 use Rattle.range.specs.declared.Compat.{Compat}
 use Rattle.range.specs.declared.Compat.TheVariants.{Cargo, Npm}
-use Rattle.range.specs.declared.Mode.{Mode}
+use Rattle.range.specs.declared.UnknownMode.{UnknownMode}
 use Rattle.range.specs.declared.Prefix.{Prefix}
-use Rattle.range.specs.declared.Lead.{Lead}
-use Rattle.range.specs.declared.Kept.{Kept}
-use Rattle.range.specs.declared.Raised.{Raised}
+use Rattle.range.specs.declared.Component.{Component}
+use Rattle.range.specs.declared.Component.TheVariants.{Major, Minor, Patch}
 use Rattle.range.specs.declared.Expansion.{Expansion}
 
 -- ---- what the code is given, as the rules have it
@@ -26,9 +27,10 @@ abbrev pub compat_of : Compat → E.Compat
 compat_of Cargo = E.cargo
 compat_of Npm = E.npm
 
-abbrev pub mode_is : Mode → Option E.Compat
-mode_is (Mode.Compat m) = some (compat_of m)
-mode_is Mode.Nothing = none
+-- the mode, or none where the number is no mode's
+abbrev pub mode_is : Std.Result Compat UnknownMode → Math.Option E.Compat
+mode_is (Ok m) = some (compat_of m)
+mode_is (Err e) = none
 
 abbrev pub prefix_of : Prefix → S.Prefix
 prefix_of Prefix.Bare = S.bare
@@ -53,31 +55,29 @@ op_for S.gt = Gt
 op_for S.gte = Gte
 op_for S.eq = Eq
 
-abbrev pub prefix_for : S.Prefix → Prefix
-prefix_for S.bare = Prefix.Bare
-prefix_for S.tilde = Prefix.Tilde
-prefix_for S.caret = Prefix.Caret
-prefix_for (S.op o) = Prefix.Op (op_for o)
+-- a prefix, and what is left behind it
+abbrev pub lead_is : Prefix × Bor (List ℕ) → Result S.Prefix
+lead_is x = ok (prefix_of x.0) x.1.now
 
-abbrev pub leading : Prefix → ℕ → Lead
-leading f l = record { prefix = f; left = l }
+abbrev pub lead_in : Option (Prefix × Bor (List ℕ)) → Result S.Prefix
+lead_in None = fail
+lead_in (Some x) = lead_is x
 
--- the prefix that is read, if any; else the partial is bare, and all bytes are left
-unfoldable pub lead_of : List ℕ → Result S.Prefix → Lead
-lead_of s fail = leading Prefix.Bare (length s)
-lead_of s (ok f r) = leading (prefix_for f) (length r)
+-- the prefix f, if s begins with its bytes; else g, behind which r is left
+abbrev pub longer_of : List ℕ → List ℕ → Prefix → Prefix → List ℕ → Result S.Prefix
+longer_of s w f g r = choose (literal w s) (λ u t. ok (prefix_of f) t) (ok (prefix_of g) r)
 
-abbrev pub kept_of : Option S.Op → Kept
-kept_of none = Kept.Nothing
-kept_of (some o) = Kept.Op (op_for o)
+abbrev pub kept_of : Math.Option S.Op → Option Op
+kept_of none = None
+kept_of (some o) = Some (op_for o)
 
-abbrev pub raised_of : Option E.Component → Raised
-raised_of none = Raised.Nothing
-raised_of (some E.major) = Raised.Major
-raised_of (some E.minor) = Raised.Minor
-raised_of (some E.patch) = Raised.Patch
+abbrev pub raised_of : Math.Option E.Component → Option Component
+raised_of none = None
+raised_of (some E.major) = Some Major
+raised_of (some E.minor) = Some Minor
+raised_of (some E.patch) = Some Patch
 
-abbrev pub expanding : Kept → Raised → Expansion
+abbrev pub expanding : Option Op → Option Component → Expansion
 expanding k r = record { kept = k; raised = r }
 
 -- what a piece says but for its partial
@@ -86,8 +86,8 @@ expansion_of (E.piece o c p) = expanding (kept_of o) (raised_of c)
 
 -- ---- the comparators of an expansion
 
-abbrev pub raised_partial : Raised → Partial → Partial
-raised_partial Raised.Major p = no_pre (zero_patch (zero_minor (inc_major p)))
-raised_partial Raised.Minor p = no_pre (zero_patch (inc_minor p))
-raised_partial Raised.Patch p = no_pre (inc_patch p)
-raised_partial Raised.Nothing p = p
+abbrev pub raised_partial : Option Component → Held → Held
+raised_partial (Some Major) p = no_pre (zero_patch (zero_minor (inc_major p)))
+raised_partial (Some Minor) p = no_pre (zero_patch (inc_minor p))
+raised_partial (Some Patch) p = no_pre (inc_patch p)
+raised_partial None p = p

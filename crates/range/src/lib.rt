@@ -2,58 +2,58 @@
 // an expansion says which comparators the partial gives. It depends on the partial's kind and on which of its numbers are zero.
 #![tactic(auto)]
 
-ghost use Rattle.std.specs.Prelude.{◌≡◌, ◌≤◌, length};
+ghost use Rattle.std.specs.Prelude.{◌≡◌};
 ghost use Rattle.rules.specs.Syntax.{item};
 ghost use Rattle.rules.specs.Parse.{read_prefix};
 ghost use Rattle.rules.specs.Expansion.{mode_number, mode_from, expand_eq, caret_raises, expand_caret, expand_tilde, expand_bare, expand_op, expand_item, expand_left, expand_right};
-ghost use Rattle.partial.specs.Views.{op_of};
-ghost use Rattle.range.specs.Views.{compat_of, mode_is, prefix_of, leading, lead_of, raised_of, expanding, expansion_of, shape_of, raised_partial};
+ghost use Rattle.partial.specs.Views.{op_of, partial_is};
+ghost use Rattle.range.specs.Views.{compat_of, mode_is, prefix_of, lead_is, lead_in, longer_of, raised_of, expanding, expansion_of, shape_of, raised_partial};
 
-use lexer::starts_with;
+use lexer::skip_bytes;
 use partial::{Op, Partial, PartialKind};
 
 // The mode.
-#[derive(Clone, Copy)]
+#[derive(Clone, Copy, PartialEq, Eq)]
 pub enum Compat {
     Cargo,
     Npm,
 }
 
-impl Compat {
-    // The mode's number.
-    pub fn number(self) -> u8
-        ensures { result ≡ mode_number (compat_of self) }
-    {
-        match self {
+// The mode's number.
+impl From<Compat> for u8 {
+    ghost from_gives = { λ m n. n ≡ mode_number (compat_of m) };
+
+    fn from(compat: Compat) -> u8 {
+        match compat {
             Compat::Cargo => 0,
             Compat::Npm => 1,
         }
     }
 }
 
-// The mode with a number, if it is one's.
-#[derive(Clone, Copy)]
-pub enum Mode {
-    Compat(Compat),
-    Nothing,
-}
+// A number that is no mode's.
+#[derive(Clone, Copy, PartialEq, Eq)]
+pub struct UnknownMode;
 
-// What an exported call answers where the mode's number is none: no refusal of 01 and 02 has it.
-pub const NO_MODE: u64 = 255;
+// The mode with a number.
+impl TryFrom<u8> for Compat {
+    type Error = UnknownMode;
 
-pub fn mode_of(number: u8) -> Mode
-    ensures { mode_is result ≡ mode_from number }
-{
-    match number {
-        0 => Mode::Compat(Compat::Cargo),
-        1 => Mode::Compat(Compat::Npm),
-        _ => Mode::Nothing,
+    ghost try_from_gives = { λ n r. mode_is r ≡ mode_from n };
+
+    #[tactic(auto, unfolding(rules::specs::Expansion::mode_from))]
+    fn try_from(number: u8) -> Result<Compat, UnknownMode> {
+        match number {
+            0 => Ok(Compat::Cargo),
+            1 => Ok(Compat::Npm),
+            _ => Err(UnknownMode),
+        }
     }
 }
 
 // ---- what stands before a partial
 
-#[derive(Clone, Copy)]
+#[derive(Clone, Copy, PartialEq, Eq)]
 pub enum Prefix {
     Bare,
     Tilde,
@@ -61,80 +61,56 @@ pub enum Prefix {
     Op(Op),
 }
 
-// Behind the prefix left bytes are left.
-#[derive(Clone, Copy)]
-pub struct Lead {
-    pub prefix: Prefix,
-    pub left: usize,
-}
-
-impl Lead {
-    fn new(prefix: Prefix, left: usize) -> Lead
-        ensures { result ≡ leading prefix left }
-    {
-        Lead { prefix, left }
-    }
-}
-
-// What is read before a partial; where that is nothing, the partial is bare.
-pub fn read_prefix(s: &[u8]) -> Lead
-    ensures value { result ≡ lead_of s.now (read_prefix s.now) }
-    ensures within { result.left ≤ length s.now }
+// The longer of two prefixes that begin alike, if it stands at the start of s; else the shorter one, behind whose byte left is left.
+#[tactic(auto, unfolding(lexer::proofs::Opened::readers))]
+fn longer<'a>(
+    s: &'a [u8],
+    bytes: &[u8],
+    prefix: Prefix,
+    shorter: Prefix,
+    left: &'a [u8],
+) -> (Prefix, &'a [u8])
+    ensures { lead_is result ≡ longer_of s.now bytes.now prefix shorter left.now }
 {
-    if s.len() == 0 {
-        return Lead::new(Prefix::Bare, 0);
+    match skip_bytes(s, bytes) {
+        Some(behind) => (prefix, behind),
+        None => (shorter, left),
     }
-    match s[0] {
-        b'<' => {
-            if starts_with(s, b"<=") {
-                return Lead::new(Prefix::Op(Op::Lte), s.len() - 2);
-            }
-            Lead::new(Prefix::Op(Op::Lt), s.len() - 1)
-        }
-        b'>' => {
-            if starts_with(s, b">=") {
-                return Lead::new(Prefix::Op(Op::Gte), s.len() - 2);
-            }
-            Lead::new(Prefix::Op(Op::Gt), s.len() - 1)
-        }
-        b'~' => {
-            if starts_with(s, b"~>") {
-                return Lead::new(Prefix::Tilde, s.len() - 2);
-            }
-            Lead::new(Prefix::Tilde, s.len() - 1)
-        }
-        b'=' => Lead::new(Prefix::Op(Op::Eq), s.len() - 1),
-        b'^' => Lead::new(Prefix::Caret, s.len() - 1),
-        _ => Lead::new(Prefix::Bare, s.len()),
+}
+
+// What is read before a partial, and what is left behind it.
+#[tactic(auto, unfolding(crate::proofs::Opened::readers))]
+pub fn read_prefix(s: &[u8]) -> Option<(Prefix, &[u8])>
+    ensures { lead_in result ≡ read_prefix s.now }
+{
+    match s {
+        [b'<', left @ ..] => Some(longer(s, b"<=", Prefix::Op(Op::Lte), Prefix::Op(Op::Lt), left)),
+        [b'>', left @ ..] => Some(longer(s, b">=", Prefix::Op(Op::Gte), Prefix::Op(Op::Gt), left)),
+        [b'~', left @ ..] => Some(longer(s, b"~>", Prefix::Tilde, Prefix::Tilde, left)),
+        [b'=', left @ ..] => Some((Prefix::Op(Op::Eq), left)),
+        [b'^', left @ ..] => Some((Prefix::Caret, left)),
+        _ => None,
     }
 }
 
 // ---- expansions: a match on the prefix or the operator, and on the partial's kind; behind an arm stands what it expands
 
-// The operator of the comparator with the components as read, if there is one.
-#[derive(Clone, Copy)]
-pub enum Kept {
-    Op(Op),
-    Nothing,
-}
-
-// The component that is raised in an added `<`, if there is one.
-#[derive(Clone, Copy)]
-pub enum Raised {
+#[derive(Clone, Copy, PartialEq, Eq)]
+pub enum Component {
     Major,
     Minor,
     Patch,
-    Nothing,
 }
 
-#[derive(Clone, Copy)]
+// The operator of the comparator with the components as read, if there is one; and the component that is raised in an added `<`, if there is one.
+#[derive(Clone, Copy, PartialEq, Eq)]
 pub struct Expansion {
-    pub kept: Kept,
-    pub raised: Raised,
+    pub kept: Option<Op>,
+    pub raised: Option<Component>,
 }
 
 impl Expansion {
-    fn new(kept: Kept, raised: Raised) -> Expansion
+    fn new(kept: Option<Op>, raised: Option<Component>) -> Expansion
         ensures { result ≡ expanding kept raised }
     {
         Expansion { kept, raised }
@@ -142,63 +118,68 @@ impl Expansion {
 }
 
 // `=`; and a bare partial that is not full.
+#[tactic(auto, unfolding(crate::proofs::Opened::expansions))]
 fn equals(kind: PartialKind) -> Expansion
     ensures { result ≡ expansion_of (expand_eq (shape_of kind 0 0)) }
 {
     match kind {
-        PartialKind::XRangeOnly => Expansion::new(Kept::Op(Op::Gte), Raised::Nothing), // =*
-        PartialKind::MajorOnly => Expansion::new(Kept::Op(Op::Gte), Raised::Major), // =1
-        PartialKind::MajorMinor => Expansion::new(Kept::Op(Op::Gte), Raised::Minor), // =1.2
-        PartialKind::MajorMinorPatch => Expansion::new(Kept::Op(Op::Eq), Raised::Nothing), // =1.2.3
+        PartialKind::XRangeOnly => Expansion::new(Some(Op::Gte), None), // =*
+        PartialKind::MajorOnly => Expansion::new(Some(Op::Gte), Some(Component::Major)), // =1
+        PartialKind::MajorMinor => Expansion::new(Some(Op::Gte), Some(Component::Minor)), // =1.2
+        PartialKind::MajorMinorPatch => Expansion::new(Some(Op::Eq), None), // =1.2.3
     }
 }
 
+#[tactic(auto, unfolding(crate::proofs::Opened::expansions))]
 fn tilde(kind: PartialKind) -> Expansion
     ensures { result ≡ expansion_of (expand_tilde (shape_of kind 0 0)) }
 {
     match kind {
-        PartialKind::XRangeOnly => Expansion::new(Kept::Op(Op::Gte), Raised::Nothing), // ~*
-        PartialKind::MajorOnly => Expansion::new(Kept::Op(Op::Gte), Raised::Major), // ~1
-        PartialKind::MajorMinor => Expansion::new(Kept::Op(Op::Gte), Raised::Minor), // ~1.2
-        PartialKind::MajorMinorPatch => Expansion::new(Kept::Op(Op::Gte), Raised::Minor), // ~1.2.3
+        PartialKind::XRangeOnly => Expansion::new(Some(Op::Gte), None), // ~*
+        PartialKind::MajorOnly => Expansion::new(Some(Op::Gte), Some(Component::Major)), // ~1
+        PartialKind::MajorMinor => Expansion::new(Some(Op::Gte), Some(Component::Minor)), // ~1.2
+        PartialKind::MajorMinorPatch => Expansion::new(Some(Op::Gte), Some(Component::Minor)), // ~1.2.3
     }
 }
 
 // The component that a caret raises.
-fn caret_raises(kind: PartialKind, major: u64, minor: u64) -> Raised
+#[tactic(auto, unfolding(crate::proofs::Opened::expansions))]
+fn caret_raises(kind: PartialKind, major: u64, minor: u64) -> Option<Component>
     ensures { result ≡ raised_of (caret_raises (shape_of kind major minor)) }
 {
     match kind {
-        PartialKind::XRangeOnly => Raised::Nothing,
-        PartialKind::MajorOnly => Raised::Major,
+        PartialKind::XRangeOnly => None,
+        PartialKind::MajorOnly => Some(Component::Major),
         PartialKind::MajorMinor => {
             if major == 0 {
-                Raised::Minor
+                Some(Component::Minor)
             } else {
-                Raised::Major
+                Some(Component::Major)
             }
         }
         PartialKind::MajorMinorPatch => {
             if major == 0 {
                 if minor == 0 {
-                    Raised::Patch
+                    Some(Component::Patch)
                 } else {
-                    Raised::Minor
+                    Some(Component::Minor)
                 }
             } else {
-                Raised::Major
+                Some(Component::Major)
             }
         }
     }
 }
 
+#[tactic(auto, unfolding(crate::proofs::Opened::expansions))]
 fn handle_caret_range(kind: PartialKind, major: u64, minor: u64) -> Expansion
     ensures { result ≡ expansion_of (expand_caret (shape_of kind major minor)) }
 {
-    Expansion::new(Kept::Op(Op::Gte), caret_raises(kind, major, minor))
+    Expansion::new(Some(Op::Gte), caret_raises(kind, major, minor))
 }
 
 // A partial alone: a full one is read as its caret under Cargo.
+#[tactic(auto, unfolding(crate::proofs::Opened::expansions))]
 fn bare(kind: PartialKind, major: u64, minor: u64, compat: Compat) -> Expansion
     ensures { result ≡ expansion_of (expand_bare (compat_of compat) (shape_of kind major minor)) }
 {
@@ -214,29 +195,31 @@ fn bare(kind: PartialKind, major: u64, minor: u64, compat: Compat) -> Expansion
 }
 
 // An operator.
+#[tactic(auto, unfolding(crate::proofs::Opened::expansions))]
 fn primitive(op: Op, kind: PartialKind) -> Expansion
     ensures { result ≡ expansion_of (expand_op (op_of op) (shape_of kind 0 0)) }
 {
     match op {
-        Op::Lt => Expansion::new(Kept::Op(Op::Lt), Raised::Nothing),
+        Op::Lt => Expansion::new(Some(Op::Lt), None),
         Op::Lte => match kind {
-            PartialKind::XRangeOnly => Expansion::new(Kept::Op(Op::Gte), Raised::Nothing), // <=*
-            PartialKind::MajorOnly => Expansion::new(Kept::Nothing, Raised::Major), // <=1
-            PartialKind::MajorMinor => Expansion::new(Kept::Nothing, Raised::Minor), // <=1.2
-            PartialKind::MajorMinorPatch => Expansion::new(Kept::Op(Op::Lte), Raised::Nothing), // <=1.2.3
+            PartialKind::XRangeOnly => Expansion::new(Some(Op::Gte), None), // <=*
+            PartialKind::MajorOnly => Expansion::new(None, Some(Component::Major)), // <=1
+            PartialKind::MajorMinor => Expansion::new(None, Some(Component::Minor)), // <=1.2
+            PartialKind::MajorMinorPatch => Expansion::new(Some(Op::Lte), None), // <=1.2.3
         },
         Op::Gt => match kind {
-            PartialKind::XRangeOnly => Expansion::new(Kept::Op(Op::Lt), Raised::Nothing), // >*
-            PartialKind::MajorOnly => Expansion::new(Kept::Op(Op::Gt), Raised::Nothing), // >1
-            PartialKind::MajorMinor => Expansion::new(Kept::Op(Op::Gt), Raised::Nothing), // >1.2
-            PartialKind::MajorMinorPatch => Expansion::new(Kept::Op(Op::Gt), Raised::Nothing), // >1.2.3
+            PartialKind::XRangeOnly => Expansion::new(Some(Op::Lt), None), // >*
+            PartialKind::MajorOnly => Expansion::new(Some(Op::Gt), None), // >1
+            PartialKind::MajorMinor => Expansion::new(Some(Op::Gt), None), // >1.2
+            PartialKind::MajorMinorPatch => Expansion::new(Some(Op::Gt), None), // >1.2.3
         },
-        Op::Gte => Expansion::new(Kept::Op(Op::Gte), Raised::Nothing),
+        Op::Gte => Expansion::new(Some(Op::Gte), None),
         Op::Eq => equals(kind),
     }
 }
 
 // An item: a prefix and a partial.
+#[tactic(auto, unfolding(crate::proofs::Opened::expansions))]
 pub fn simple(
     prefix: Prefix,
     kind: PartialKind,
@@ -256,43 +239,46 @@ pub fn simple(
 
 // ---- the two sides of a hyphen range
 
+#[tactic(auto, unfolding(crate::proofs::Opened::expansions))]
 pub fn hyphen_left(kind: PartialKind) -> Expansion
     ensures { result ≡ expansion_of (expand_left (shape_of kind 0 0)) }
 {
     match kind {
-        PartialKind::XRangeOnly => Expansion::new(Kept::Nothing, Raised::Nothing), // * - ..
-        PartialKind::MajorOnly => Expansion::new(Kept::Op(Op::Gte), Raised::Nothing), // 1 - ..
-        PartialKind::MajorMinor => Expansion::new(Kept::Op(Op::Gte), Raised::Nothing), // 1.2 - ..
-        PartialKind::MajorMinorPatch => Expansion::new(Kept::Op(Op::Gte), Raised::Nothing), // 1.2.3 - ..
+        PartialKind::XRangeOnly => Expansion::new(None, None), // * - ..
+        PartialKind::MajorOnly => Expansion::new(Some(Op::Gte), None), // 1 - ..
+        PartialKind::MajorMinor => Expansion::new(Some(Op::Gte), None), // 1.2 - ..
+        PartialKind::MajorMinorPatch => Expansion::new(Some(Op::Gte), None), // 1.2.3 - ..
     }
 }
 
+#[tactic(auto, unfolding(crate::proofs::Opened::expansions))]
 pub fn hyphen_right(left: PartialKind, kind: PartialKind) -> Expansion
     ensures { result ≡ expansion_of (expand_right (shape_of left 0 0) (shape_of kind 0 0)) }
 {
     match kind {
         PartialKind::XRangeOnly => match left {
-            PartialKind::XRangeOnly => Expansion::new(Kept::Op(Op::Gte), Raised::Nothing), // * - *
-            PartialKind::MajorOnly => Expansion::new(Kept::Nothing, Raised::Nothing), // 1 - *
-            PartialKind::MajorMinor => Expansion::new(Kept::Nothing, Raised::Nothing), // 1.2 - *
-            PartialKind::MajorMinorPatch => Expansion::new(Kept::Nothing, Raised::Nothing), // 1.2.3 - *
+            PartialKind::XRangeOnly => Expansion::new(Some(Op::Gte), None), // * - *
+            PartialKind::MajorOnly => Expansion::new(None, None), // 1 - *
+            PartialKind::MajorMinor => Expansion::new(None, None), // 1.2 - *
+            PartialKind::MajorMinorPatch => Expansion::new(None, None), // 1.2.3 - *
         },
-        PartialKind::MajorOnly => Expansion::new(Kept::Nothing, Raised::Major), // .. - 1
-        PartialKind::MajorMinor => Expansion::new(Kept::Nothing, Raised::Minor), // .. - 1.2
-        PartialKind::MajorMinorPatch => Expansion::new(Kept::Op(Op::Lte), Raised::Nothing), // .. - 1.2.3
+        PartialKind::MajorOnly => Expansion::new(None, Some(Component::Major)), // .. - 1
+        PartialKind::MajorMinor => Expansion::new(None, Some(Component::Minor)), // .. - 1.2
+        PartialKind::MajorMinorPatch => Expansion::new(Some(Op::Lte), None), // .. - 1.2.3
     }
 }
 
 // ---- the comparators of an expansion
 
 // The partial of an added `<`: the raised component one more, those behind it zero, and no identifiers.
-pub fn raise(p: Partial, raised: Raised) -> Partial
-    ensures { result ≡ raised_partial raised p }
+#[tactic(auto, unfolding(crate::proofs::Opened::expansions))]
+pub fn raise(p: Partial<'_>, raised: Option<Component>) -> Partial<'_>
+    ensures { partial_is result ≡ raised_partial raised (partial_is p.entry) }
 {
     match raised {
-        Raised::Major => p.inc_major().zero_minor().zero_patch().no_pre(),
-        Raised::Minor => p.inc_minor().zero_patch().no_pre(),
-        Raised::Patch => p.inc_patch().no_pre(),
-        Raised::Nothing => p,
+        Some(Component::Major) => p.inc_major().zero_minor().zero_patch().no_pre(),
+        Some(Component::Minor) => p.inc_minor().zero_patch().no_pre(),
+        Some(Component::Patch) => p.inc_patch().no_pre(),
+        None => p,
     }
 }

@@ -1,5 +1,5 @@
 pub mod Stages
 pub mod Stands
-pub mod Hyphens
 pub mod Items
+pub mod Hyphens
 pub mod Ranges

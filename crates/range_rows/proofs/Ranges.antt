@@ -1,18 +1,9 @@
 -- The writer of all rows, one range after another: what its loop knows, and what each of its ways gives.
 -- Assumes nothing.
-use Prim.Native.Nat.{ℕ, suc, ◌+◌, ◌-◌, ◌<◌, ◌≤◌}
-use mathlib.Core.Path.{◌≡◌, refl, sym, ap, ap₂, ◌∙◌}
-use mathlib.Core.Bool.{Bool, true, false, not}
-use mathlib.Core.List.{List, [], ◌∷◌, ◌++◌, map}
-use native.Mathlib.Omega.{arith}
-use native.Mathlib.Numerals.{add-one}
-use mir.Val.{Fits}
-use mir.Syntax.{w64}
-use lib.ListN.{length, take, drop, length-take, length-drop}
-use borrow.Author.Tests.{not-true, not-false}
+use Rattle.std.proofs.Common.{ℕ, ◌+◌, ◌-◌, ◌≤◌, ◌≡◌, true, List, [], ◌∷◌, ◌++◌, map, length, take, drop, refl, Some, None, ◌∙◌, ap, ap₂, sym, add-one, arith}
+use lib.ListN.{length-take, length-drop}
 use borrow.Rule.Slice.PartMut.{put_mid}
 use Rattle.rules.specs.Lists.{concat}
-use Rattle.rules.specs.Bytes.{pick}
 use Rattle.rules.specs.Parse.{list_of}
 use Rattle.rules.specs.Expansion as E
 use Rattle.rules.specs.Expansion.{Piece, expand_range}
@@ -23,21 +14,14 @@ use Rattle.rules.specs.Walk as W
 use Rattle.rules.specs.Walk.{goes_on, piece_identifier_words, walk_identifier_words}
 use Rattle.rules.proofs.RowsLaws.{words-length, names-length}
 use Rattle.rules.proofs.WalkWords.{concat-map-append, expand-names-words}
-use Rattle.partial.proofs.Unread.{Rest}
-use Rattle.walk.specs.Views.{stage_of, step_at}
-use Rattle.walk.specs.declared.Stage.{Stage}
-use Rattle.walk.specs.declared.Stage.TheVariants as Stages
-use Rattle.walk.specs.declared.Step.{Step}
-use Rattle.walk.proofs.Ends.{is_side}
+use Rattle.walk.specs.Views.{Stepped, step_at}
 use Rattle.rows.specs.Put.{Put}
 use Rattle.rows.proofs.Puts.{put-part, put-onto, Begins, Writing, writing_start, writing-todo, writing-put, writing-next, writing-end}
 use Rattle.passes.specs.Views.{first_step}
-use Rattle.passes.proofs.Passing.{starting, passing-end}
-use Rattle.passes.proofs.Extending.{extending-all}
-use Rattle.passes.proofs.Due.{first-here}
-use Rattle.range_rows.specs.Views.{is_listed, first, later, range_words, range_names, Beginning, AtRange, at-range, Ending, BehindRange, behind-range, Writable}
-use Rattle.range_rows.specs.declared.RangeEnd.{RangeEnd}
-use Rattle.range_rows.proofs.Stands.{later-drop}
+use Rattle.passes.proofs.Passing.{starting, passing_next, passing_end}
+use Rattle.passes.proofs.Extending.{extending_all}
+use Rattle.range_rows.specs.Views.{first, later, range_words, range_names, Here, Beginning, AtRange, at_range, BehindRange, behind_range, Writable}
+use Rattle.range_rows.proofs.Stands.{later_drop}
 
 -- ---- the words of a range come first
 
@@ -46,62 +30,43 @@ unfolding range_rows
 range_none n k [] = refl
 range_none n k (x ∷ ps) = refl
 
-from-none : (n k : ℕ) (rs : List (List Piece)) → rows_from n k rs [] ≡ []
+from_none : (n k : ℕ) (rs : List (List Piece)) → rows_from n k rs [] ≡ []
 unfolding rows_from
-from-none n k [] = refl
-from-none n k (ps ∷ rs) = refl
+from_none n k [] = refl
+from_none n k (ps ∷ rs) = refl
 
-rows-first : (n k : ℕ) (rs : List (List Piece)) (es : List (List Extent)) → rows_from n k rs es ≡ range_rows n k (first rs) (first es) ++ rows_from n (suc k) (later rs) (later es)
+rows_first : (n k : ℕ) (rs : List (List Piece)) (es : List (List Extent)) → rows_from n k rs es ≡ range_rows n k (first rs) (first es) ++ rows_from n (k + 1) (later rs) (later es)
 unfolding rows_from range_rows
-rows-first n k [] es = refl
-rows-first n k (ps ∷ rs) [] = sym (ap₂ ◌++◌ (range_none n k ps) (from-none n (suc k) rs))
-rows-first n k (ps ∷ rs) (e ∷ es) = refl
+rows_first n k [] es = refl
+rows_first n k (ps ∷ rs) [] = sym (ap₂ ◌++◌ (range_none n k ps) (from_none n (k + 1) rs))
+rows_first n k (ps ∷ rs) (e ∷ es) = ap (λ j. range_rows n k ps e ++ rows_from n j rs es) (sym (add-one k))
 
-names-first : (n : ℕ) (rs : List (List Piece)) → walk_identifier_words n rs ≡ concat (map (piece_identifier_words n) (first rs)) ++ walk_identifier_words n (later rs)
+names_first : (n : ℕ) (rs : List (List Piece)) → walk_identifier_words n rs ≡ concat (map (piece_identifier_words n) (first rs)) ++ walk_identifier_words n (later rs)
 unfolding walk_identifier_words
-names-first n [] = refl
-names-first n (ps ∷ rs) = concat-map-append (piece_identifier_words n) ps (concat rs)
+names_first n [] = refl
+names_first n (ps ∷ rs) = concat-map-append (piece_identifier_words n) ps (concat rs)
 
 -- ---- behind a range
 
--- a further one follows
-closed-range : (st : Stage) → is_listed (stage_of st) ≡ false → is_side (stage_of st) ≡ false → goes_on (stage_of st) ≡ true → st ≡ Stages.Range
-closed-range Stages.Item i j g = cc
-closed-range Stages.Range i j g = refl
-closed-range Stages.Right i j g = cc
-closed-range Stages.Only i j g = cc
-closed-range Stages.End i j g = cc
-closed-range Stages.Bad i j g = cc
+behind : {m : E.Compat} {s : List ℕ} {k : ℕ} {n : W.Stage × List ℕ} → BehindRange m s k n → Here m s (k + 1) n
+behind (behind_range g) = g
 
-ending : {m : E.Compat} {s : List ℕ} {k left : ℕ} {stage : Stage} → BehindRange m s k stage left → Ending m s k stage left
-ending (behind-range g) = g
+-- another range is to come
+module _ {m : E.Compat} {s : List ℕ} {k : ℕ} {n : W.Stage × List ℕ} (b : BehindRange m s k n) (t : goes_on n.0 ≡ true) where
+  pub behind_next : None ≡ step_at m n.0 n.1 → ⊥
+  behind_next e = passing_next (behind b).pass t e
 
-at_stage : {m : E.Compat} {s : List ℕ} {k left : ℕ} (st st' : Stage) → st ≡ st' → Ending m s k st left → Ending m s k st' left
-at_stage st st' e g = rw e at g
-
-module _ (m : E.Compat) (s : List ℕ) (range : ℕ) (st : Stage) (left : ℕ) (b : BehindRange m s range st left) where
-  pub put-left : left ≤ length s
-  put-left = (ending b).stands.pass.within
-
-  module _ (v : Bool) (i : v ≡ goes_on (stage_of st)) (t : not v ≡ false) where
-    more : range + suc left ≤ length s
-    more = omega (arith, (ending b).stands.few, ap (λ b. pick b (suc left) 0) (sym i ∙ not-false v t))
-
-    pub put-less : length s - (range + 1) < length s - range
-    put-less = omega (arith, more)
-
-    pub put_count : length s < 18446744073709551616 → Fits w64 (range + 1)
-    put_count h = omega (arith, more)
+  pub behind_begins : (x : Stepped) → Some x ≡ step_at m n.0 n.1 → Beginning m s (k + 1) x
+  behind_begins x e = let h = (behind b).begins t in record { left = n.1; here = at_stage n.0 W.range n.1 h (behind b); is = rw h at e }
+    where
+      at_stage : (st st' : W.Stage) (l : List ℕ) → st ≡ st' → Here m s (k + 1) (st, l) → Here m s (k + 1) (st', l)
+      at_stage st st' l e g = rw e at g
 
 -- ---- the loop
 
--- where a range begins, none of its pieces is before those to come
-opens : {A : Type 0} {l k : List (List A)} → l ≡ [] ∷ later l → later l ≡ k → l ≡ [] ∷ k
-opens {k = k} e h = e ∙ ap (λ r. [] ∷ r) h
-
 module _ (m : E.Compat) (s start before : List ℕ) where
-  -- The rows of all ranges before this one are written: to words up to at, and to ids up to `to`. It begins with the step x.
-  pub record Putting (words ids : List ℕ) (range at to : ℕ) (x : Step) : Type 0 where
+  -- The rows of all ranges before this one are written: so many words, and so many identifier words. It begins with the step x.
+  pub record Putting (words ids : List ℕ) (range at to : ℕ) (x : Stepped) : Type 0 where
     pub here : Beginning m s range x
     pub reads : E.Reading
     pub is : reading m s ≡ accepted reads
@@ -110,24 +75,28 @@ module _ (m : E.Compat) (s start before : List ℕ) where
     pub room : length (comparator_words m s) ≤ length start
     pub space : length (identifier_words (length s) reads) ≤ length before
 
-  pub put_first : (x : Step) → x ≡ first_step m s → Writable m s (length start) (length before) → Putting start before 0 0 0 x
+  pub putting_start : (x : Stepped) → Some x ≡ first_step m s → Writable m s (length start) (length before) → Putting start before 0 0 0 x
   unfolding comparator_words
-  put_first x e h =
-      let a = starting m s h.reads h.is in let b = extending-all m s a.pass in
+  putting_start x e h =
+      let a = starting m s h.reads h.is in let b = extending_all m s a.pass in
       let all : map (expand_range m) a.text.ranges ≡ text_pieces m s = ap (λ g. map (expand_range m) (list_of g)) (sym a.text.reads) in
       let names =
       ap (identifier_words (length s)) a.text.is ∙ expand-names-words m (length s) a.text.ranges ∙ ap (walk_identifier_words (length s)) all in
       record {
         here =
             record {
-              left = length s;
-              begin = length s;
-              pass = a.pass;
-              extends = b.extending;
-              pieces = a.all ∙ ap (λ (l : List (List Piece)). [] ∷ l) all;
-              extents = b.all;
-              is = first-here m s x e;
-              few = omega arith;
+              left = s;
+              here =
+                  record {
+                    begin = length s;
+                    pass = a.pass;
+                    extends = b.extending;
+                    pieces = a.all ∙ ap (λ (l : List (List Piece)). [] ∷ l) all;
+                    extents = b.all;
+                    begins = λ t. refl;
+                    few = omega arith;
+                  };
+              is = e;
             };
         reads = h.reads;
         is = h.is;
@@ -137,115 +106,98 @@ module _ (m : E.Compat) (s start before : List ℕ) where
         space = let r = h.space in omega (arith, names-length (length s) h.reads);
       }
 
-  module _ (words ids : List ℕ) (range at to : ℕ) (x : Step) (d : Putting words ids range at to x) where
-    rows_next : Begins (rows_from (length s) range (drop range (text_pieces m s)) (drop range (list_of (text_extents s)))) (range_words m s range)
-        (rows_from (length s) (range + 1) (drop (range + 1) (text_pieces m s)) (drop (range + 1) (list_of (text_extents s))))
-    unfolding range_words
-    rows_next =
-        record {
-          split =
-              rows-first (length s) range (drop range (text_pieces m s)) (drop range (list_of (text_extents s)))
-              ∙ ap (λ w. range_words m s range ++ w)
-              (ap₂ (rows_from (length s) (suc range)) (later-drop range (text_pieces m s)) (later-drop range (list_of (text_extents s))) ∙ rw add-one refl);
-        }
+module _ {m : E.Compat} {s start before words ids : List ℕ} {range at to : ℕ} {x : Stepped} (d : Putting m s start before words ids range at to x) where
+  rows_next : Begins (rows_from (length s) range (drop range (text_pieces m s)) (drop range (list_of (text_extents s)))) (range_words m s range)
+      (rows_from (length s) (range + 1) (drop (range + 1) (text_pieces m s)) (drop (range + 1) (list_of (text_extents s))))
+  unfolding range_words
+  rows_next =
+      record {
+        split =
+            rows_first (length s) range (drop range (text_pieces m s)) (drop range (list_of (text_extents s)))
+            ∙ ap (λ w. range_words m s range ++ w) (ap₂ (rows_from (length s) (range + 1)) (later_drop range (text_pieces m s)) (later_drop range (list_of (text_extents s))));
+      }
 
-    names-next : Begins (walk_identifier_words (length s) (drop range (text_pieces m s))) (range_names m s range) (walk_identifier_words (length s) (drop (range + 1) (text_pieces m s)))
-    unfolding range_names
-    names-next =
-        record {
-          split =
-              names-first (length s) (drop range (text_pieces m s))
-              ∙ ap (λ w. range_names m s range ++ w) (ap (walk_identifier_words (length s)) (later-drop range (text_pieces m s)) ∙ rw add-one refl);
-        }
+  names_next : Begins (walk_identifier_words (length s) (drop range (text_pieces m s))) (range_names m s range) (walk_identifier_words (length s) (drop (range + 1) (text_pieces m s)))
+  unfolding range_names
+  names_next =
+      record {
+        split =
+            names_first (length s) (drop range (text_pieces m s))
+            ∙ ap (λ w. range_names m s range ++ w) (ap (walk_identifier_words (length s)) (later_drop range (text_pieces m s)));
+      }
 
-    fits-rows : at + length (range_words m s range) ≤ length words
-    fits-rows = let h = d.room in writing-next d.rows rows_next (omega arith)
+  fits_rows : at + length (range_words m s range) ≤ length words
+  fits_rows = let h = d.room in writing-next d.rows rows_next (omega arith)
 
-    fits-names : to + length (range_names m s range) ≤ length ids
-    fits-names = let h = d.space in writing-next d.names names-next (omega arith)
+  fits_names : to + length (range_names m s range) ≤ length ids
+  fits_names = let h = d.space in writing-next d.names names_next (omega arith)
 
-    pub put-here : AtRange m s range x (length (take (length words - at) (drop at words))) (length (take (length ids - to) (drop to ids)))
-    put-here = at-range d.here (simp (length-take, length-drop) (omega (arith, fits-rows))) (simp (length-take, length-drop) (omega (arith, fits-names)))
+  pub putting_here : AtRange m s range x (length (take (length words - at) (drop at words))) (length (take (length ids - to) (drop to ids)))
+  putting_here = at_range d.here (simp (length-take, length-drop) (omega (arith, fits_rows))) (simp (length-take, length-drop) (omega (arith, fits_names)))
 
-    pub put-at : at ≤ length words
-    put-at = omega (arith, fits-rows)
+  pub putting_at : at ≤ length words
+  putting_at = omega (arith, fits_rows)
 
-    pub put-to : to ≤ length ids
-    put-to = omega (arith, fits-names)
+  pub putting_to : to ≤ length ids
+  putting_to = omega (arith, fits_names)
 
-    pub put-words : (y : List ℕ) (n : ℕ) → Put (take (length words - at) (drop at words)) 0 (range_words m s range) y n → length start < 18446744073709551616 → Fits w64 (at + n)
-    put-words y n p k = omega (arith, p.place, d.rows.same, fits-rows)
+  rows_left : {y : List ℕ} {n : ℕ} → Put (take (length words - at) (drop at words)) 0 (range_words m s range) y n
+      → Writing start 0 (comparator_words m s) (put_mid at (length words - at) words y) (at + n)
+      (rows_from (length s) (range + 1) (drop (range + 1) (text_pieces m s)) (drop (range + 1) (list_of (text_extents s))))
+  rows_left p = writing-put d.rows rows_next (put-part p)
 
-    pub put-ids : (y : List ℕ) (n : ℕ) → Put (take (length ids - to) (drop to ids)) 0 (range_names m s range) y n → length before < 18446744073709551616 → Fits w64 (to + n)
-    put-ids y n p k = omega (arith, p.place, d.names.same, fits-names)
+  names_left : {z : List ℕ} {j : ℕ} → Put (take (length ids - to) (drop to ids)) 0 (range_names m s range) z j
+      → Writing before 0 (identifier_words (length s) d.reads) (put_mid to (length ids - to) ids z) (to + j) (walk_identifier_words (length s) (drop (range + 1) (text_pieces m s)))
+  names_left q = writing-put d.names names_next (put-part q)
 
-    module _ (r : RangeEnd) (y : List ℕ) (p : Put (take (length words - at) (drop at words)) 0 (range_words m s range) y r.words) where
-      rows_left : Writing start 0 (comparator_words m s) (put_mid at (length words - at) words y) (at + r.words)
-          (rows_from (length s) (range + 1) (drop (range + 1) (text_pieces m s)) (drop (range + 1) (list_of (text_extents s))))
-      rows_left = writing-put d.rows rows_next (put-part p)
+  pub putting_words : {y : List ℕ} {n : ℕ} → Put (take (length words - at) (drop at words)) 0 (range_words m s range) y n → at + n ≤ length words
+  putting_words p = omega (arith, p.place, fits_rows)
 
-      module _ (z : List ℕ) (q : Put (take (length ids - to) (drop to ids)) 0 (range_names m s range) z r.ids) where
-        names-left : Writing before 0 (identifier_words (length s) d.reads) (put_mid to (length ids - to) ids z) (to + r.ids) (walk_identifier_words (length s) (drop (range + 1) (text_pieces m s)))
-        names-left = writing-put d.names names-next (put-part q)
+  pub putting_ids : {z : List ℕ} {j : ℕ} → Put (take (length ids - to) (drop to ids)) 0 (range_names m s range) z j → to + j ≤ length ids
+  putting_ids q = omega (arith, q.place, fits_names)
 
-        module _ (b : BehindRange m s range r.stage r.left) (v : Bool) (i : v ≡ goes_on (stage_of r.stage)) where
-          g : Ending m s range r.stage r.left
-          g = ending b
+  -- another range is to come
+  pub putting_more : {y : List ℕ} {n : ℕ} → Put (take (length words - at) (drop at words)) 0 (range_words m s range) y n
+      → {z : List ℕ} {j : ℕ} → Put (take (length ids - to) (drop to ids)) 0 (range_names m s range) z j
+      → {a : W.Stage × List ℕ} → BehindRange m s range a → goes_on a.0 ≡ true → {v : Stepped} → Some v ≡ step_at m a.0 a.1
+      → Putting m s start before (put_mid at (length words - at) words y) (put_mid to (length ids - to) ids z) (range + 1) (at + n) (to + j) v
+  putting_more p q b t {v} e =
+      record {
+        here = behind_begins b t v e;
+        reads = d.reads;
+        is = d.is;
+        rows = rows_left p;
+        names = names_left q;
+        room = d.room;
+        space = d.space;
+      }
 
-          -- another range is to come
-          module _ (t : not v ≡ false) where
-            goes : goes_on (stage_of r.stage) ≡ true
-            goes = sym i ∙ not-false v t
+  -- none is
+  done : {a : W.Stage × List ℕ} → BehindRange m s range a → a.0 ≡ W.end → drop (range + 1) (text_pieces m s) ≡ []
+  done b e = ap later (sym (behind b).pieces ∙ passing_end (behind b).pass e)
 
-            there : Ending m s range Stages.Range r.left
-            there = at_stage r.stage Stages.Range (closed-range r.stage g.closed g.plain goes) g
+  rows_none : rows_from (length s) (range + 1) [] (drop (range + 1) (list_of (text_extents s))) ≡ []
+  unfolding rows_from
+  rows_none = refl
 
-            pub put_next : (x' : Step) → x' ≡ step_at m W.range (Rest s r.left)
-                → Putting (put_mid at (length words - at) words y) (put_mid to (length ids - to) ids z) (range + 1) (at + r.words) (to + r.ids) x'
-            put_next x' e =
-                record {
-                  here =
-                      record {
-                        left = r.left;
-                        begin = there.stands.begin;
-                        pass = there.stands.pass;
-                        extends = there.stands.extends;
-                        pieces = opens there.pieces (rw add-one there.stands.pieces);
-                        extents = opens there.extents (rw add-one there.stands.extents);
-                        is = e;
-                        few = omega (arith, there.stands.few);
-                      };
-                  reads = d.reads;
-                  is = d.is;
-                  rows = rows_left;
-                  names = names-left;
-                  room = d.room;
-                  space = d.space;
-                }
+  names_none : walk_identifier_words (length s) [] ≡ []
+  unfolding walk_identifier_words
+  names_none = refl
 
-          -- none is
-          module _ (t : not v ≡ true) where
-            done : drop (range + 1) (text_pieces m s) ≡ []
-            done = rw add-one (sym g.stands.pieces) ∙ ap later (passing-end g.stands.pass (sym i ∙ not-true v t))
+  pub putting_rows : {a : W.Stage × List ℕ} → BehindRange m s range a → a.0 ≡ W.end
+      → {y : List ℕ} {n : ℕ} → Put (take (length words - at) (drop at words)) 0 (range_words m s range) y n
+      → put_mid at (length words - at) words y ≡ comparator_words_after m s (reading m s) start
+  unfolding comparator_words_after written
+  putting_rows b e p =
+      put-onto (writing-end (writing-todo (ap (λ l. rows_from (length s) (range + 1) l (drop (range + 1) (list_of (text_extents s)))) (done b e) ∙ rows_none) (rows_left p))) d.room
+      ∙ ap (λ a. comparator_words_after m s a start) (sym d.is)
 
-            rows_none : rows_from (length s) (range + 1) [] (drop (range + 1) (list_of (text_extents s))) ≡ []
-            unfolding rows_from
-            rows_none = refl
+  pub putting_names : {a : W.Stage × List ℕ} → BehindRange m s range a → a.0 ≡ W.end
+      → {z : List ℕ} {j : ℕ} → Put (take (length ids - to) (drop to ids)) 0 (range_names m s range) z j
+      → put_mid to (length ids - to) ids z ≡ identifier_words_after s (reading m s) before
+  unfolding identifier_words_after written
+  putting_names b e q =
+      put-onto (writing-end (writing-todo (ap (walk_identifier_words (length s)) (done b e) ∙ names_none) (names_left q))) d.space
+      ∙ ap (λ a. identifier_words_after s a before) (sym d.is)
 
-            names-none : walk_identifier_words (length s) [] ≡ []
-            unfolding walk_identifier_words
-            names-none = refl
-
-            pub put-rows : put_mid at (length words - at) words y ≡ comparator_words_after m s (reading m s) start
-            unfolding comparator_words_after written
-            put-rows =
-                put-onto (writing-end (writing-todo (ap (λ l. rows_from (length s) (range + 1) l (drop (range + 1) (list_of (text_extents s)))) done ∙ rows_none) rows_left)) d.room
-                ∙ ap (λ a. comparator_words_after m s a start) (sym d.is)
-
-            pub put-names : put_mid to (length ids - to) ids z ≡ identifier_words_after s (reading m s) before
-            unfolding identifier_words_after written
-            put-names =
-                put-onto (writing-end (writing-todo (ap (walk_identifier_words (length s)) done ∙ names-none) names-left)) d.space
-                ∙ ap (λ a. identifier_words_after s a before) (sym d.is)
-
-pub ruleset putting = (put_first, put-here, put-at, put-to, put-left, put-less, put_next, put-rows, put-names)
+pub ruleset putting = (putting_at, putting_to)

@@ -1,6 +1,8 @@
--- The rows of one range of a text, and where a range begins, goes on and ends.
+-- The rows of one range of a text, and where a range begins and ends.
 -- Assumes nothing.
-use Rattle.std.specs.Prelude.{ℕ, suc, ◌+◌, ◌-◌, ◌*◌, ◌≤◌, ◌≡◌, Bool, true, false, List, [], ◌∷◌, ◌++◌, map, length, drop}
+use Rattle.std.specs.Prelude.{ℕ, suc, ◌+◌, ◌*◌, ◌≤◌, ◌≡◌, Bool, true, false, List, [], ◌∷◌, map, length, drop, Option, Some, None}
+use Rattle.std.specs.Borrow.{Bor}
+use Rattle.rules.specs.Bytes.{pick}
 use Rattle.rules.specs.Lists.{concat}
 use Rattle.rules.specs.Parse.{list_of}
 use Rattle.rules.specs.Expansion.{Compat, Reading}
@@ -8,20 +10,17 @@ use Rattle.rules.specs.Extents.{text_extents}
 use Rattle.rules.specs.Rows.{comparator_width, range_rows, text_pieces}
 use Rattle.rules.specs.Answers.{accepted, reading, comparator_rows, identifier_rows}
 use Rattle.rules.specs.Walk as W
-use Rattle.rules.specs.Walk.{piece_identifier_words}
-use Rattle.partial.proofs.Unread.{Rest}
-use Rattle.walk.specs.Views.{stage_of, step_at}
+use Rattle.rules.specs.Walk.{goes_on, piece_identifier_words}
+use Rattle.walk.specs.Views.{Stepped, stage_of, step_at}
 use Rattle.walk.specs.declared.Stage.{Stage}
-use Rattle.walk.specs.declared.Stage.TheVariants as Stages
-use Rattle.walk.specs.declared.Step.{Step}
-use Rattle.walk.proofs.Ends.{is_side}
-use Rattle.passes.specs.Views.{Raisable, Signed}
 use Rattle.passes.proofs.Turn.{ahead}
 use Rattle.passes.proofs.Passing.{Passing}
+use Rattle.passes.proofs.Ends.{is_side}
 use Rattle.passes.proofs.Extending.{Extending}
-use Rattle.step_rows.specs.Views.{step_comparator_words, step_identifier_words}
 
--- a further item of the same range follows
+-- ---- what stands behind a step
+
+-- a further item of the same range
 abbrev pub is_listed : W.Stage → Bool
 is_listed W.item = true
 is_listed W.range = false
@@ -30,33 +29,18 @@ is_listed W.only = false
 is_listed W.end = false
 is_listed W.bad = false
 
--- ---- the rows of an item
+-- where it begins
+abbrev pub further_in : W.Stage × List ℕ → Option (List ℕ)
+further_in n = pick (is_listed n.0) (Some n.1) None
 
--- the comparator rows of the step x, which is an item by itself
-abbrev pub item_words : List ℕ → ℕ → Step → List ℕ
-item_words s k x = step_comparator_words k (length s - x.begin) (x.begin - x.end) x
+-- where the right side of a hyphen range begins
+abbrev pub side_in : W.Stage × List ℕ → Option (W.Stage × List ℕ)
+side_in n = pick (is_side n.0) (Some n) None
 
--- "A hyphen range is one item": the comparator rows of both its sides, and their identifier rows
-abbrev pub hyphen_words : List ℕ → ℕ → Step → Step → List ℕ
-hyphen_words s k x y = step_comparator_words k (length s - x.begin) (x.begin - y.end) x ++ step_comparator_words k (length s - x.begin) (x.begin - y.end) y
-
-abbrev pub hyphen_names : List ℕ → Step → Step → List ℕ
-hyphen_names s x y = step_identifier_words s x ++ step_identifier_words s y
-
--- Their places, lengths and numbers can be reckoned, and they fit so many words. Data, as the others below, so that the prover's searches do not look
--- into them.
-pub data ItemFits (s : List ℕ) (k : ℕ) (x : Step) (words ids : ℕ) : Type 0 where
-  item-fits : x.begin ≤ length s → x.end ≤ x.begin → Raisable x.raised x → Signed s x → length (item_words s k x) ≤ words → length (step_identifier_words s x) ≤ ids
-      → ItemFits s k x words ids
-
-pub data HyphenFits (s : List ℕ) (k : ℕ) (x y : Step) (words ids : ℕ) : Type 0 where
-  hyphen-fits : x.begin ≤ length s → y.end ≤ x.begin → Raisable x.raised x → Raisable y.raised y → Signed s x → Signed s y
-      → length (hyphen_words s k x y) ≤ words → length (hyphen_names s x y) ≤ ids → HyphenFits s k x y words ids
-
--- at this stage, where left bytes are left: behind the step x
-pub record StandsBehind (x : Step) (stage : Stage) (left : ℕ) : Type 0 where
-  pub same-stage : stage ≡ x.stage
-  pub same_left : left ≡ x.left
+-- a stage and what is left there, as the code has them
+abbrev pub sides : Option (Stage × Bor (List ℕ)) → Option (W.Stage × List ℕ)
+sides None = None
+sides (Some x) = Some (stage_of x.0, x.1.now)
 
 -- ---- the rows of a range
 
@@ -80,60 +64,29 @@ range_names m s k = concat (map (piece_identifier_words (length s)) (first (drop
 
 -- ---- where a range begins
 
--- The range with this number begins where left bytes are left, and x is its first step.
-pub record Beginning (m : Compat) (s : List ℕ) (k : ℕ) (x : Step) : Type 0 where
-  pub left : ℕ
+-- The range with this number begins from n on, or there is none and the text ends.
+pub record Here (m : Compat) (s : List ℕ) (k : ℕ) (n : W.Stage × List ℕ) : Type 0 where
   pub begin : ℕ
-  pub pass : Passing m s Stages.Range left
-  pub extends : Extending m s Stages.Range left begin
+  pub pass : Passing m n
+  pub extends : Extending m s n begin
   pub pieces : pass.coming ≡ [] ∷ drop k (text_pieces m s)
   pub extents : extends.coming ≡ [] ∷ drop k (list_of (text_extents s))
-  pub is : x ≡ step_at m W.range (Rest s left)
-  pub few : k + left ≤ length s
+  pub begins : goes_on n.0 ≡ true → n.0 ≡ W.range
+  pub few : k + ahead n ≤ suc (length s)
 
--- and its rows fit so many words
-pub data AtRange (m : Compat) (s : List ℕ) (k : ℕ) (x : Step) (words ids : ℕ) : Type 0 where
-  at-range : Beginning m s k x → length (range_words m s k) ≤ words → length (range_names m s k) ≤ ids → AtRange m s k x words ids
+-- and x is its first step
+pub record Beginning (m : Compat) (s : List ℕ) (k : ℕ) (x : Stepped) : Type 0 where
+  pub left : List ℕ
+  pub here : Here m s k (W.range, left)
+  pub is : Some x ≡ step_at m W.range left
 
--- ---- inside a range
+-- And its rows fit so many words. Data, as the next one, so that the prover's searches do not look into it.
+pub data AtRange (m : Compat) (s : List ℕ) (k : ℕ) (x : Stepped) (words ids : ℕ) : Type 0 where
+  at_range : Beginning m s k x → length (range_words m s k) ≤ words → length (range_names m s k) ≤ ids → AtRange m s k x words ids
 
--- At this stage, where left bytes are left, behind one or more pieces of the range with this number: what is to come.
-pub record Standing (m : Compat) (s : List ℕ) (k : ℕ) (stage : Stage) (left : ℕ) : Type 0 where
-  pub begin : ℕ
-  pub pass : Passing m s stage left
-  pub extends : Extending m s stage left begin
-  pub pieces : later pass.coming ≡ drop (suc k) (text_pieces m s)
-  pub extents : later extends.coming ≡ drop (suc k) (list_of (text_extents s))
-  pub few : k + ahead stage left ≤ length s
-
--- behind its first `at` words stands rest
-pub record Splits (all : List ℕ) (at : ℕ) (rest : List ℕ) : Type 0 where
-  pub behind : drop at all ≡ rest
-  pub size : at + length rest ≡ length all
-
--- And the rows of those pieces take so many words. No right side of a hyphen range stands here.
-pub record Going (m : Compat) (s : List ℕ) (k at to : ℕ) (stage : Stage) (left : ℕ) : Type 0 where
-  pub stands : Standing m s k stage left
-  pub plain : is_side (stage_of stage) ≡ false
-  pub rows : Splits (range_words m s k) at (range_rows (length s) k (first stands.pass.coming) (first stands.extends.coming))
-  pub names : Splits (range_names m s k) to (concat (map (piece_identifier_words (length s)) (first stands.pass.coming)))
-
--- and the rows of the whole range fit so many
-pub data InRange (m : Compat) (s : List ℕ) (k at to : ℕ) (stage : Stage) (left words ids : ℕ) : Type 0 where
-  in-range : Going m s k at to stage left → length (range_words m s k) ≤ words → length (range_names m s k) ≤ ids → InRange m s k at to stage left words ids
-
--- ---- where a range ends
-
--- Of the range with this number nothing is to come.
-pub record Ending (m : Compat) (s : List ℕ) (k : ℕ) (stage : Stage) (left : ℕ) : Type 0 where
-  pub stands : Standing m s k stage left
-  pub pieces : stands.pass.coming ≡ [] ∷ later stands.pass.coming
-  pub extents : stands.extends.coming ≡ [] ∷ later stands.extends.coming
-  pub closed : is_listed (stage_of stage) ≡ false
-  pub plain : is_side (stage_of stage) ≡ false
-
-pub data BehindRange (m : Compat) (s : List ℕ) (k : ℕ) (stage : Stage) (left : ℕ) : Type 0 where
-  behind-range : Ending m s k stage left → BehindRange m s k stage left
+-- behind the range with this number
+pub data BehindRange (m : Compat) (s : List ℕ) (k : ℕ) (n : W.Stage × List ℕ) : Type 0 where
+  behind_range : Here m s (k + 1) n → BehindRange m s k n
 
 -- ---- all rows
 

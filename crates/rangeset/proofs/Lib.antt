@@ -1,3 +1,2 @@
 pub mod Measuring
-pub mod Bytes
 pub mod Outcomes

@@ -1,12 +1,8 @@
 -- The measure: what its loop knows, and what each of its ways gives.
 -- Assumes nothing.
-use Prim.Native.Nat.{ℕ, suc, ◌+◌, ◌*◌, ◌-◌, ◌<◌, ◌≤◌}
-use mathlib.Core.Path.{◌≡◌, refl, sym, ap, ◌∙◌}
-use mathlib.Core.List.{List, [], ◌∷◌}
-use mathlib.Core.Bool.{Bool, true, false, ◌||◌}
-use mathlib.Core.Option.{Option, none, some}
-use native.Mathlib.Omega.{arith}
-use lib.ListN.{length, drop}
+use Rattle.std.proofs.Common.{ℕ, suc, ◌≡◌, ◌+◌, ◌*◌, ◌<◌, ◌≤◌, Bool, true, false, ◌||◌, List, [], ◌∷◌, length, refl, Some, None, ◌∙◌, ap, sym, arith}
+use Rattle.std.proofs.Math.Option.{Option, none, some}
+use Rattle.std.specs.Prelude as Std
 use Rattle.rules.specs.Lists.{concat, some_of}
 use Rattle.rules.specs.Parse.{read_text}
 use Rattle.rules.specs.Expansion as E
@@ -14,15 +10,13 @@ use Rattle.rules.specs.Expansion.{Piece}
 use Rattle.rules.specs.Walk as W
 use Rattle.rules.specs.Walk.{Walks, goes_on, opening, push, map_option, walk_of, total, comparator_count, identifier_count, large_in, over_in, tally}
 use Rattle.rules.proofs.WalkLaws.{text-walk}
-use Rattle.partial.proofs.Unread.{Rest}
-use Rattle.walk.specs.Views.{stage_of, step_at}
+use Rattle.std.specs.Borrow.{Bor}
+use Rattle.walk.specs.Views.{Stepped, step_at, stage_of, next_is, begin_text, end_text}
 use Rattle.walk.specs.declared.Stage.{Stage}
-use Rattle.walk.specs.declared.Stage.TheVariants as Stages
-use Rattle.walk.specs.declared.Step.{Step}
-use Rattle.passes.specs.Views.{is_end, opened, first_step, comparator_count_of}
-use Rattle.passes.proofs.Turn.{concat-push, concat-opening, ahead, ended, failed, Turn, turn, turn-fewer}
-use Rattle.passes.proofs.Due.{first-here}
-use Rattle.rangeset.specs.Views.{tally_of}
+use Rattle.passes.proofs.Passing.{goes_stage}
+use Rattle.passes.specs.Views.{first_step, step_gives, over_of}
+use Rattle.passes.proofs.Turn.{concat_push, concat_opening, ahead, ended, turn, turn_stuck, large_is, count_is, comparators_are, over_is}
+use Rattle.rangeset.specs.Views.{tally_of, opened}
 use Rattle.rangeset.specs.declared.Tally.{Tally}
 
 -- ---- what is still to come
@@ -33,21 +27,20 @@ further [] = 0
 further (ps ∷ rs) = length rs
 
 -- the tally of a text of which so much was counted, and of which this is to come
-abbrev plus : ℕ → ℕ → ℕ → Bool → Bool → Option (List (List Piece)) → Tally
-plus a b c l v none = record { found = false; ranges = 0; comparators = 0; identifiers = 0; large = false; over = false }
+abbrev plus : ℕ → ℕ → ℕ → Bool → Bool → Option (List (List Piece)) → Std.Option Tally
+plus a b c l v none = None
 plus a b c l v (some rs) =
-    record {
-      found = true;
+    Some (record {
       ranges = a + further rs;
       comparators = b + total comparator_count (concat rs);
       identifiers = c + total identifier_count (concat rs);
       large = l || some_of large_in (concat rs);
       over = v || some_of over_in (concat rs);
-    }
+    })
 
-tally-eq : (f : Bool) (a a' b b' c c' : ℕ) (l l' v v' : Bool) → a ≡ a' → b ≡ b' → c ≡ c' → l ≡ l' → v ≡ v'
-    → ◌≡◌ {A = Tally} (record { found = f; ranges = a; comparators = b; identifiers = c; large = l; over = v }) (record { found = f; ranges = a'; comparators = b'; identifiers = c'; large = l'; over = v' })
-tally-eq f a a' b b' c c' l l' v v' p q r x y = rw (p, q, r, x, y)
+tally-eq : (a a' b b' c c' : ℕ) (l l' v v' : Bool) → a ≡ a' → b ≡ b' → c ≡ c' → l ≡ l' → v ≡ v'
+    → ◌≡◌ {A = Std.Option Tally} (Some (record { ranges = a; comparators = b; identifiers = c; large = l; over = v })) (Some (record { ranges = a'; comparators = b'; identifiers = c'; large = l'; over = v' }))
+tally-eq a a' b b' c c' l l' v v' p q r x y = rw (p, q, r, x, y)
 
 or-none : (a : Bool) → a || false ≡ a
 or-none true = refl
@@ -60,10 +53,10 @@ or-more false b c = refl
 plus-start : (o : Option (List (List Piece))) → tally_of o ≡ plus 0 0 0 false false (map_option (λ rs. [] ∷ rs) o)
 unfolding tally_of tally
 plus-start none = refl
-plus-start (some rs) = tally-eq true _ _ _ _ _ _ _ _ _ _ (omega arith) (omega arith) (omega arith) refl refl
+plus-start (some rs) = tally-eq _ _ _ _ _ _ _ _ _ _ (omega arith) (omega arith) (omega arith) refl refl
 
-plus-end : (a b c : ℕ) (l v : Bool) → plus a b c l v (some ([] ∷ [])) ≡ record { found = true; ranges = a; comparators = b; identifiers = c; large = l; over = v }
-plus-end a b c l v = tally-eq true _ _ _ _ _ _ _ _ _ _ (omega arith) (omega arith) (omega arith) (or-none l) (or-none v)
+plus-end : (a b c : ℕ) (l v : Bool) → plus a b c l v (some ([] ∷ [])) ≡ Some (record { ranges = a; comparators = b; identifiers = c; large = l; over = v })
+plus-end a b c l v = tally-eq _ _ _ _ _ _ _ _ _ _ (omega arith) (omega arith) (omega arith) (or-none l) (or-none v)
 
 further-push : (x : Piece) (rs : List (List Piece)) → further (push x rs) ≡ further rs
 further-push x [] = refl
@@ -82,8 +75,8 @@ plus_step : (a b c : ℕ) (l v : Bool) (st : W.Stage) (x : Piece) (o : Option (L
     → plus a b c l v (map_option (λ rs. opening st (push x rs)) o) ≡ plus (a + opened st) (b + comparator_count x) (c + identifier_count x) (l || large_in x) (v || over_in x) o
 plus_step a b c l v st x none = refl
 plus_step a b c l v st x (some rs) =
-    let e : concat (opening st (push x rs)) ≡ x ∷ concat rs = concat-opening st (push x rs) ∙ concat-push x rs in
-    tally-eq true _ _ _ _ _ _ _ _ _ _
+    let e : concat (opening st (push x rs)) ≡ x ∷ concat rs = concat_opening st (push x rs) ∙ concat_push x rs in
+    tally-eq _ _ _ _ _ _ _ _ _ _
     (omega (arith, further-opening st x rs))
     (omega (arith, ap (total comparator_count) e))
     (omega (arith, ap (total identifier_count) e))
@@ -96,67 +89,92 @@ plus-same a b c l v o p q r s t = rw (p, q, r, s, t)
 
 -- ---- the loop
 
--- So much was counted of s, of which left bytes are left at this stage.
-pub record Measured (m : E.Compat) (s : List ℕ) (ranges comparators identifiers : ℕ) (large over : Bool) (stage : Stage) (left : ℕ) : Type 0 where
+-- So much was counted of s; from n on the rest is to come.
+pub record Measured (m : E.Compat) (s : List ℕ) (ranges comparators identifiers : ℕ) (large over : Bool) (n : W.Stage × List ℕ) : Type 0 where
   pub coming : Option (List (List Piece))
-  pub walks : Walks m (stage_of stage) (drop (length s - left) s) coming
+  pub walks : Walks m n.0 n.1 coming
   pub counts : tally_of (walk_of m (read_text s)) ≡ plus ranges comparators identifiers large over coming
-  pub few_identifiers : identifiers + left ≤ length s
-  pub few_ranges : ranges + ahead stage left ≤ suc (length s)
-  pub few_comparators : comparators + 2 * ahead stage left ≤ 2 * suc (length s)
+  pub few_identifiers : identifiers + length n.1 ≤ length s
+  pub few_ranges : ranges + ahead n ≤ suc (length s)
+  pub few_comparators : comparators + 2 * ahead n ≤ 2 * suc (length s)
 
-measured-start : (m : E.Compat) (s : List ℕ) → Measured m s 0 0 0 false false Stages.Range (length s)
-measured-start m s =
+measured_start : (m : E.Compat) (s : List ℕ) → Measured m s 0 0 0 false false (W.range, s)
+measured_start m s =
     record {
       coming = map_option (λ rs. [] ∷ rs) (walk_of m (read_text s));
-      walks = rw whole (text-walk m s);
+      walks = text-walk m s;
       counts = plus-start (walk_of m (read_text s));
       few_identifiers = omega arith;
       few_ranges = omega arith;
       few_comparators = omega arith;
     }
-  where
-    whole : drop (length s - length s) s ≡ s
-    whole = let e : length s - length s ≡ 0 = omega arith in rw e refl
 
-module _ (m : E.Compat) (s : List ℕ) (ranges comparators identifiers : ℕ) (large over : Bool) (stage : Stage) (left : ℕ)
-    (g : Measured m s ranges comparators identifiers large over stage left) (y : Bool) (q : y ≡ goes_on (stage_of stage)) where
+module _ (m : E.Compat) (s : List ℕ) (a b c : ℕ) (l v : Bool) (n : W.Stage × List ℕ) (g : Measured m s a b c l v n) (t : goes_on n.0 ≡ true) where
   -- the step from here
-  module _ (t : y ≡ true) (x : Step) (e : x ≡ step_at m (stage_of stage) (Rest s left)) where
-    here : Turn m s g.coming stage left x
-    here = let f = g.few_identifiers in turn m s g.coming stage left g.walks (omega arith) (sym q ∙ t) x e
+  pub measured_step : (x : Stepped) → Some x ≡ step_at m n.0 n.1 → (d f : ℕ) → d ≡ opened n.0 → d ≤ 1 → f ≡ length (step_gives x) → f ≤ 2
+      → Measured m s (a + d) (b + f) (c + x.partial.count) (l || x.partial.large) (v || over_of x) x.next
+  measured_step x e d f i id j jf =
+      let h = turn g.walks t x e in
+      let few = h.fewer in let w = h.within in
+      let now : ahead n ≡ suc (length n.1) = rw t in
+      let p = g.few_identifiers in let q = g.few_ranges in let r = g.few_comparators in
+      let count : x.partial.count ≡ identifier_count h.of = ap (λ z. z.partial.count) h.held ∙ count_is _ _ _ h.of in
+      record {
+        coming = h.behind;
+        walks = h.walks;
+        counts =
+            g.counts ∙ ap (plus a b c l v) h.is ∙ plus_step a b c l v n.0 h.of h.behind
+            ∙ plus-same a b c l v h.behind (sym i) (sym (j ∙ ap (λ z. length (step_gives z)) h.held ∙ comparators_are _ _ _ h.of)) (sym count)
+            (sym (ap (λ z. z.partial.large) h.held ∙ large_is _ _ _ h.of)) (sym (ap over_of h.held ∙ over_is _ _ _ h.of));
+        few_identifiers = omega (arith, count);
+        few_ranges = omega arith;
+        few_comparators = omega arith;
+      }
 
-    pub measured-fewer : ahead x.stage x.left < ahead stage left
-    measured-fewer = let f = g.few_identifiers in turn-fewer m s g.coming stage left g.walks (omega arith) (sym q ∙ t) x e
+  pub measured_fewer : (x : Stepped) → Some x ≡ step_at m n.0 n.1 → ahead x.next < ahead n
+  measured_fewer x e = let h = turn g.walks t x e in let f = h.fewer in rw t (omega arith)
 
-    pub measured-step : (a : ℕ) → a ≡ opened (stage_of stage) → a ≤ 1 → (b : ℕ) → b ≡ comparator_count_of x → b ≤ 2
-        → Measured m s (ranges + a) (comparators + b) (identifiers + x.count) (large || x.large) (over || x.over) x.stage x.left
-    measured-step a i ia b j jb =
-        let p = here.step in let f = g.few_identifiers in let h = g.few_ranges in let k = g.few_comparators in
-        record {
-          coming = here.behind;
-          walks = here.walks;
-          counts =
-              g.counts ∙ ap (plus ranges comparators identifiers large over) here.is ∙ plus_step ranges comparators identifiers large over (stage_of stage) p.of here.behind
-              ∙ plus-same ranges comparators identifiers large over here.behind (sym i) (sym (j ∙ p.comparators)) (sym p.identifiers) (sym p.large) (sym p.over);
-          few_identifiers = omega (arith, here.within);
-          few_ranges = omega (arith, here.fewer, here.now);
-          few_comparators = omega (arith, here.fewer, here.now);
-        }
+  -- there is no reading
+  pub measured_stuck : None ≡ step_at m n.0 n.1 → None ≡ tally_of (walk_of m (read_text s))
+  measured_stuck e = sym (g.counts ∙ ap (plus a b c l v) (turn_stuck g.walks t e))
 
-  -- the end of the text, or of its reading
-  module _ (t : y ≡ false) (z : Bool) (p : z ≡ is_end (stage_of stage)) where
-    pub measured-end : z ≡ true → record { found = true; ranges = ranges; comparators = comparators; identifiers = identifiers; large = large; over = over } ≡ tally_of (walk_of m (read_text s))
-    measured-end u = sym (g.counts ∙ ap (plus ranges comparators identifiers large over) (ended g.walks (sym q ∙ t) (sym p ∙ u)) ∙ plus-end ranges comparators identifiers large over)
-
-    pub measured-bad : z ≡ false → record { found = false; ranges = 0; comparators = 0; identifiers = 0; large = false; over = false } ≡ tally_of (walk_of m (read_text s))
-    measured-bad u = sym (g.counts ∙ ap (plus ranges comparators identifiers large over) (failed g.walks (sym q ∙ t) (sym p ∙ u)))
+-- the end of the text
+pub measured_end : (m : E.Compat) (s : List ℕ) (a b c : ℕ) (l v : Bool) (n : W.Stage × List ℕ) → Measured m s a b c l v n → n.0 ≡ W.end
+    → Some (record { ranges = a; comparators = b; identifiers = c; large = l; over = v }) ≡ tally_of (walk_of m (read_text s))
+measured_end m s a b c l v n g e = sym (g.counts ∙ ap (plus a b c l v) (ended g.walks e) ∙ plus-end a b c l v)
 
 -- behind the first step
-pub measured-first : (m : E.Compat) (s : List ℕ) (x : Step) → x ≡ first_step m s → (b : ℕ) → b ≡ comparator_count_of x → b ≤ 2
-    → Measured m s 1 b x.count x.large x.over x.stage x.left
-measured-first m s x e b j jb =
-    let i : 0 + b ≡ b = omega arith in let k : 0 + x.count ≡ x.count = omega arith in
-    rw (i, k) at (measured-step m s 0 0 0 false false Stages.Range (length s) (measured-start m s) true refl refl x (first-here m s x e) 1 refl (omega arith) b j jb)
+pub measured_first : (m : E.Compat) (s : List ℕ) (x : Stepped) → Some x ≡ first_step m s → (f : ℕ) → f ≡ length (step_gives x) → f ≤ 2 → (v : Bool) → v ≡ over_of x
+    → Measured m s 1 f x.partial.count x.partial.large v x.next
+measured_first m s x e f j jf v k =
+    let i : 0 + f ≡ f = omega arith in let c : 0 + x.partial.count ≡ x.partial.count = omega arith in
+    rw (i, c, ← k) at (measured_step m s 0 0 0 false false (W.range, s) (measured_start m s) refl x e 1 f refl (omega arith) j jf)
 
-pub ruleset measuring = (measured-first, measured-fewer, measured-step, measured-end, measured-bad)
+-- a text without a first step has no reading
+pub measured_none : (m : E.Compat) (s : List ℕ) → None ≡ first_step m s → None ≡ tally_of (walk_of m (read_text s))
+measured_none m s e = measured_stuck m s 0 0 0 false false (W.range, s) (measured_start m s) refl e
+
+-- ---- where the code holds where the next step begins
+
+module _ (m : E.Compat) (s : List ℕ) (a b c : ℕ) (l v : Bool) (at : Std.Option (Stage × Bor (List ℕ))) (st : Stage) (t : Bor (List ℕ)) (q : at ≡ Some (st, t))
+    (g : Measured m s a b c l v (next_is at)) where
+  pub here : Measured m s a b c l v (stage_of st, t.now)
+  here = rw q at g
+
+  pub code_step : (x : Stepped) → Some x ≡ step_at m (stage_of st) t.now → (d f : ℕ) → d ≡ opened (stage_of st) → d ≤ 1 → f ≡ length (step_gives x) → f ≤ 2 → (w : Bool)
+      → w ≡ over_of x → Measured m s (a + d) (b + f) (c + x.partial.count) (l || x.partial.large) (v || w) x.next
+  code_step x e d f i id j jf w k = rw k (measured_step m s a b c l v (stage_of st, t.now) here (goes_stage st) x e d f i id j jf)
+
+  pub code_few : (x : Stepped) → Some x ≡ step_at m (stage_of st) t.now → c + x.partial.count ≤ length s
+  code_few x e =
+      let h = turn here.walks (goes_stage st) x e in
+      let w = h.within in let p = here.few_identifiers in
+      omega (arith, ap (λ z. z.partial.count) h.held, count_is x.next (begin_text (stage_of st) t.now) (end_text (stage_of st) t.now) h.of)
+
+  pub code_fewer : (x : Stepped) → Some x ≡ step_at m (stage_of st) t.now → ahead x.next < ahead (next_is at)
+  code_fewer x e = rw q (measured_fewer m s a b c l v (stage_of st, t.now) here (goes_stage st) x e)
+
+  pub code_stuck : None ≡ step_at m (stage_of st) t.now → None ≡ tally_of (walk_of m (read_text s))
+  code_stuck e = measured_stuck m s a b c l v (stage_of st, t.now) here (goes_stage st) e
+
+pub ruleset measuring = (measured_first, measured_step, measured_fewer, measured_stuck, measured_end)

@@ -1,43 +1,41 @@
 -- What the code hands back of a text's tally and of its reading.
 -- Assumes nothing.
-use Rattle.std.specs.Prelude.{ℕ, true, false, List}
+use Rattle.std.specs.Prelude as Std
+use Rattle.std.specs.Prelude.{ℕ, List, Some, None, Result, Ok, Err}
 use Rattle.std.proofs.Math.Option.{Option, none, some}
 use Rattle.rules.specs.Expansion.{Piece}
 use Rattle.rules.specs.Answers.{Outcome}
 use Rattle.rules.specs.Walk as W
 use Rattle.rules.specs.Walk.{tally}
 use Rattle.rangeset.specs.declared.Tally.{Tally}
-use Rattle.rangeset.specs.declared.Refusal.{Refusal}
-use Rattle.rangeset.specs.declared.Reading.{Reading}
+use Rattle.rangeset.specs.declared.Counts.{Counts}
+use Rattle.refusals.specs.declared.Refusal.{Refusal}
+use Rattle.refusals.specs.Views.{number_of}
 
 -- ---- the measure
 
+-- the rules' tally, as the code has it
 abbrev pub counted : W.Tally → Tally
-counted t = record { found = true; ranges = t.ranges; comparators = t.comparators; identifiers = t.identifiers; large = t.large; over = t.over }
+counted t = record { ranges = t.ranges; comparators = t.comparators; identifiers = t.identifiers; large = t.large; over = t.over }
 
-unfoldable pub tally_of : Option (List (List Piece)) → Tally
+-- none where the text has no reading
+unfoldable pub tally_of : Option (List (List Piece)) → Std.Option Tally
 unfolding tally
-tally_of none = record { found = false; ranges = 0; comparators = 0; identifiers = 0; large = false; over = false }
-tally_of (some rs) = counted (tally rs)
+tally_of none = None
+tally_of (some rs) = Some (counted (tally rs))
+
+-- how many ranges a step at this stage begins
+abbrev pub opened : W.Stage → ℕ
+opened W.item = 0
+opened W.range = 1
+opened W.right = 0
+opened W.only = 0
+opened W.end = 0
+opened W.bad = 0
 
 -- ---- the answer
 
--- the numbers in 01, and from 10 on in 02
-abbrev pub number_of : Refusal → ℕ
-number_of Refusal.TooLong = 1
-number_of Refusal.NoReading = 2
-number_of Refusal.TooLarge = 3
-number_of Refusal.Over = 4
-number_of Refusal.ComparatorsShort = 5
-number_of Refusal.IdentifiersShort = 6
-number_of Refusal.BytesShort = 7
-number_of Refusal.NoVersion = 8
-number_of Refusal.VersionTooLarge = 9
-number_of Refusal.NotShelf = 10
-number_of Refusal.Full = 11
-number_of Refusal.Code = 12
-
 -- 01's number and counts: "A refused call hands back its number and zero counts"
-abbrev pub outcome_of : Reading → Outcome
-outcome_of (Reading.Accepted c) = record { refusal = 0; ranges = c.ranges; comparators = c.comparators; identifiers = c.identifiers }
-outcome_of (Reading.Refused r) = record { refusal = number_of r; ranges = 0; comparators = 0; identifiers = 0 }
+abbrev pub outcome_of : Result Counts Refusal → Outcome
+outcome_of (Ok c) = record { refusal = 0; ranges = c.ranges; comparators = c.comparators; identifiers = c.identifiers }
+outcome_of (Err r) = record { refusal = number_of r; ranges = 0; comparators = 0; identifiers = 0 }

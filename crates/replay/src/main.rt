@@ -23,322 +23,338 @@
 // own, stand all lent bytes, which held `_` before, and all lent words, which held 7.
 #![tactic(auto)]
 
-ghost use Rattle.std.specs.Prelude.{◌≤◌, IfOk, length};
+ghost use Rattle.std.specs.Prelude.{length};
+ghost use Rattle.std.specs.Iterator.{at_most};
 
 use admission::admit;
+use data_rows::{Rest, at_most};
 use equality::{equal_readings, read_normal_text};
-use lexer::read_number;
 use normal_text::normal_text;
 use plain::plainform;
-use printing::{
-    at_most, other_mode, put, put_admission, put_counts, put_equality, put_length, put_line,
-    put_reread, put_words, show_end, show_read_again_end, show_rows_end,
-};
+use printing::{Answer, Counted, Length, Reread, Shown};
 use range::Compat;
-use rangeset::read;
-use spelling::put_bytes;
+use reading::read;
 use std::io;
 use std::time::Clock;
-use streams::Input;
+
+// ---- rows
+
+// A call that is shown with short memory, all of it, and with long memory, by its end.
+#[derive(Clone, Copy)]
+enum Spelled {
+    NormalText,
+    Reading,
+    ReadAgain,
+}
+
+#[derive(Clone, Copy)]
+enum Call {
+    Heading,
+    Short(Spelled),
+    Admission,
+    Equality,
+    Plainform,
+    Long(Spelled),
+}
+
+// A number that is no call's is taken for 9.
+impl From<u64> for Call {
+    fn from(number: u64) -> Call {
+        match number {
+            0 => Call::Heading,
+            1 => Call::Short(Spelled::NormalText),
+            2 => Call::Short(Spelled::Reading),
+            3 => Call::Admission,
+            4 => Call::Short(Spelled::ReadAgain),
+            5 => Call::Equality,
+            6 => Call::Plainform,
+            7 => Call::Long(Spelled::NormalText),
+            8 => Call::Long(Spelled::Reading),
+            _ => Call::Long(Spelled::ReadAgain),
+        }
+    }
+}
+
+// A text: how many bytes it has, how many of them stand in the row, and these.
+#[derive(Clone, Copy)]
+struct Text<'a> {
+    size: u64,
+    given: u64,
+    bytes: &'a [u8],
+}
+
+// A row: its line, what the line's numbers say, and the texts.
+#[derive(Clone, Copy)]
+struct Row<'a> {
+    line: &'a [u8],
+    call: Call,
+    cargo: u64,
+    npm: u64,
+    words: u64,
+    ids: u64,
+    text: Text<'a>,
+    other: Text<'a>,
+}
+
+// The call of a row under one mode, with so many bytes lent.
+#[derive(Clone, Copy)]
+struct Question<'a> {
+    compat: Compat,
+    bytes: u64,
+    words: u64,
+    ids: u64,
+    text: &'a [u8],
+    other: &'a [u8],
+}
+
+#[derive(Drop)]
+struct Rows<'a>(Rest<'a>);
+
+impl<'a> Iterator for Rows<'a> {
+    type Item = Row<'a>;
+
+    ghost remaining = { λ s. at_most (length s.0.bytes.now) };
+
+    fn next(&mut self) -> Option<Row<'a>> {
+        let start = self.0.bytes;
+        if start.is_empty() {
+            return None;
+        }
+        let rest = &mut self.0;
+        let call = Call::from(rest.number());
+        let cargo = rest.number();
+        let npm = rest.number();
+        let words = rest.number();
+        let ids = rest.number();
+        let size = rest.number();
+        let given = rest.number();
+        let other_size = rest.number();
+        let other_given = rest.number();
+        let line = &start[..start.len() - rest.bytes.len()];
+        let text = Text {
+            size,
+            given,
+            bytes: rest.text(given),
+        };
+        let other = Text {
+            size: other_size,
+            given: other_given,
+            bytes: rest.text(other_given),
+        };
+        Some(Row {
+            line,
+            call,
+            cargo,
+            npm,
+            words,
+            ids,
+            text,
+            other,
+        })
+    }
+}
 
 // ---- the calls
 
-fn show_normal_text(
-    rt: &impl Print,
-    text: &[u8],
-    compat: Compat,
-    out: &mut [u8],
-) -> io::Result<()> {
-    put_length(rt, normal_text(text, compat, out))?;
-    put_line(rt, out)
-}
-
-fn show_reading(
-    rt: &impl Print,
-    text: &[u8],
-    compat: Compat,
-    words: &mut [u64],
-    ids: &mut [u64],
-) -> io::Result<()> {
-    put_counts(rt, read(text, compat, words, ids))?;
-    put_words(rt, words)?;
-    put_words(rt, ids)
-}
-
-fn show_read_again(
-    rt: &impl Print,
-    text: &[u8],
-    compat: Compat,
-    out: &mut [u8],
-    words: &mut [u64],
-    ids: &mut [u64],
-) -> io::Result<()> {
-    let other = other_mode(compat);
-    put_reread(rt, read_normal_text(text, compat, other, out, words, ids))?;
-    put_line(rt, out)?;
-    put_words(rt, words)?;
-    put_words(rt, ids)
-}
-
-fn show_equality(
-    rt: &impl Print,
-    s: &[u8],
-    compat: Compat,
-    t: &[u8],
-    a: &mut [u8],
-    b: &mut [u8],
-) -> io::Result<()> {
-    put_equality(rt, equal_readings(s, compat, t, Compat::Npm, a, b))?;
-    put_line(rt, a)?;
-    put_line(rt, b)
-}
-
-fn show_compared(
-    rt: &impl Print,
-    s: &[u8],
-    compat: Compat,
-    t: &[u8],
-    a: &mut [u8],
-    lent: u64,
-) -> io::Result<()> {
-    let mut b = [b'_'; 64];
-    let n = at_most(lent, 64);
-    show_equality(rt, s, compat, t, a, &mut b[..n])
-}
-
-fn show_plainform(rt: &impl Print, input: &[u8], out: &mut [u8]) -> io::Result<()> {
-    if out.len() >= plain::ROOM {
-        let len = plainform(input, out);
-        put(rt, &out[..len])?;
+fn other_mode(compat: Compat) -> Compat {
+    match compat {
+        Compat::Cargo => Compat::Npm,
+        Compat::Npm => Compat::Cargo,
     }
-    Ok(())
 }
 
-// ---- the calls on long texts, and plainform
+impl Question<'_> {
+    fn show_spelled(
+        &self,
+        rt: &impl Print,
+        call: Spelled,
+        shown: Shown,
+        out: &mut [u8],
+        words: &mut [u64],
+        ids: &mut [u64],
+    ) -> io::Result<()> {
+        match call {
+            Spelled::NormalText => {
+                let length = normal_text(self.text, self.compat, out).map(Length);
+                print!(rt; " {} ", Answer(length))?;
+                shown.put_bytes(rt, out)
+            }
+            Spelled::Reading => {
+                let counts = read(self.text, self.compat, words, ids).map(Counted);
+                println!(rt; " {}", Answer(counts))?;
+                shown.put_words(rt, words)?;
+                shown.put_words(rt, ids)
+            }
+            Spelled::ReadAgain => {
+                let other = other_mode(self.compat);
+                let counts = read_normal_text(self.text, self.compat, other, out, words, ids);
+                println!(rt; " {}", Reread(counts))?;
+                shown.put_bytes(rt, out)?;
+                shown.put_words(rt, words)?;
+                shown.put_words(rt, ids)
+            }
+        }
+    }
 
-fn show_all(
-    rt: &impl Print,
-    numbers: [u64; 9],
-    compat: Compat,
-    lent: u64,
-    text: &[u8],
-    out: &mut [u8; 524288],
-    words: &mut [u64; printing::WORDS],
-    ids: &mut [u64; 98304],
-) -> io::Result<()> {
-    let call = numbers[0];
-    match call {
-        6 => show_plainform(rt, text, out),
-        7 => show_end(rt, text, compat, lent, out),
-        8 => show_rows_end(rt, text, compat, words, ids),
-        _ => show_read_again_end(rt, text, compat, lent, out, words),
+    fn show_short(&self, rt: &impl Print, call: Spelled) -> io::Result<()> {
+        let mut out = [b'_'; 1024];
+        let mut words = [7u64; 64];
+        let mut ids = [7u64; 64];
+        let m = at_most(self.bytes, 1024);
+        let n = at_most(self.words, 64);
+        let k = at_most(self.ids, 64);
+        self.show_spelled(
+            rt,
+            call,
+            Shown::Whole,
+            &mut out[..m],
+            &mut words[..n],
+            &mut ids[..k],
+        )
+    }
+
+    // The reading alone is lent identifier words.
+    fn show_long(
+        &self,
+        rt: &impl Print,
+        call: Spelled,
+        out: &mut [u8; 524288],
+        words: &mut [u64; printing::WORDS],
+        ids: &mut [u64; 98304],
+    ) -> io::Result<()> {
+        let m = at_most(self.bytes, 524288);
+        let k = match call {
+            Spelled::Reading => 98304,
+            _ => 0,
+        };
+        self.show_spelled(rt, call, Shown::End, &mut out[..m], words, &mut ids[..k])
+    }
+
+    fn show_admission(&self, rt: &impl Print) -> io::Result<()> {
+        let admitted = admit(self.text, self.compat, self.other);
+        println!(rt;
+            " {}",
+            Answer(admitted.map(|yes| if yes { "yes" } else { "no" }))
+        )
+    }
+
+    fn show_equality(&self, rt: &impl Print) -> io::Result<()> {
+        let mut first = [b'_'; 1024];
+        let mut second = [b'_'; 64];
+        let m = at_most(self.bytes, 1024);
+        let n = at_most(self.words, 64);
+        let a = &mut first[..m];
+        let b = &mut second[..n];
+        let same = equal_readings(self.text, self.compat, self.other, Compat::Npm, a, b);
+        println!(rt;
+            " {}",
+            Answer(same.map(|yes| if yes { "equal" } else { "different" }))
+        )?;
+        Shown::Whole.put_bytes(rt, a)?;
+        Shown::Whole.put_bytes(rt, b)
+    }
+
+    fn show(&self, rt: &impl Print, call: Call) -> io::Result<()> {
+        match call {
+            Call::Heading => Ok(()),
+            Call::Short(call) => self.show_short(rt, call),
+            Call::Admission => self.show_admission(rt),
+            Call::Equality => self.show_equality(rt),
+            Call::Plainform => show_plainform(rt, self.text, &mut [0; plain::ROOM]),
+            Call::Long(call) => self.show_long(
+                rt,
+                call,
+                &mut [b'_'; 524288],
+                &mut [7; printing::WORDS],
+                &mut [7; 98304],
+            ),
+        }
+    }
+}
+
+fn show_plainform(rt: &impl Print, input: &[u8], out: &mut [u8; plain::ROOM]) -> io::Result<()> {
+    let len = plainform(input, out);
+    rt.write_all(&out[..len])
+}
+
+// ---- a text longer than what is given of it
+
+impl Text<'_> {
+    fn is_cut(&self) -> bool {
+        self.size > self.given
+    }
+
+    // The text begins with what is given, and goes on with the last two bytes of it. Where that has no room, all bytes stay.
+    fn lengthen<'b>(&self, whole: &'b mut [u8]) -> &'b [u8] {
+        let n = at_most(self.size, whole.len());
+        if let Some((head, tail)) = whole.split_at_mut_checked(self.bytes.len()) {
+            head.copy_from_slice(self.bytes);
+            if let Some(last) = head.last_chunk::<2>() {
+                for (byte, same) in tail.iter_mut().zip(last.iter().cycle()) {
+                    *byte = *same;
+                }
+            }
+        }
+        &whole[..n]
     }
 }
 
 // ---- a row
 
-fn show(
-    rt: &impl Print,
-    numbers: [u64; 9],
-    compat: Compat,
-    text: &[u8],
-    other: &[u8],
-    out: &mut [u8],
-    words: &mut [u64],
-    ids: &mut [u64],
-) -> io::Result<()> {
-    let call = numbers[0];
-    match call {
-        0 => put(rt, b""),
-        1 => show_normal_text(rt, text, compat, out),
-        2 => show_reading(rt, text, compat, words, ids),
-        3 => put_admission(rt, admit(text, compat, other)),
-        4 => show_read_again(rt, text, compat, out, words, ids),
-        _ => show_compared(rt, text, compat, other, out, numbers[3]),
-    }
-}
-
-// Under one mode, with so many bytes lent.
-fn show_lent(
-    rt: &impl Print,
-    numbers: [u64; 9],
-    compat: Compat,
-    lent: u64,
-    text: &[u8],
-    other: &[u8],
-) -> io::Result<()> {
-    let mut out = [b'_'; 1024];
-    let mut words = [7u64; 64];
-    let mut ids = [7u64; 64];
-    let m = at_most(lent, 1024);
-    let n = at_most(numbers[3], 64);
-    let k = at_most(numbers[4], 64);
-    show(
-        rt,
-        numbers,
-        compat,
-        text,
-        other,
-        &mut out[..m],
-        &mut words[..n],
-        &mut ids[..k],
-    )
-}
-
-fn show_under(
-    rt: &impl Print,
-    numbers: [u64; 9],
-    compat: Compat,
-    lent: u64,
-    text: &[u8],
-    other: &[u8],
-) -> io::Result<()> {
-    if numbers[0] > 5 {
-        return show_all(
-            rt,
-            numbers,
-            compat,
-            lent,
+impl Row<'_> {
+    // The row's call, under each mode where it takes one.
+    fn show_call(&self, rt: &impl Print, text: &[u8], other: &[u8]) -> io::Result<()> {
+        let question = Question {
+            compat: Compat::Cargo,
+            bytes: self.cargo,
+            words: self.words,
+            ids: self.ids,
             text,
-            &mut [b'_'; 524288],
-            &mut [7u64; printing::WORDS],
-            &mut [7u64; 98304],
-        );
-    }
-    show_lent(rt, numbers, compat, lent, text, other)
-}
-
-// A row's call, under each mode where it takes one.
-fn show_row(rt: &impl Print, numbers: [u64; 9], text: &[u8], other: &[u8]) -> io::Result<()> {
-    show_under(rt, numbers, Compat::Cargo, numbers[1], text, other)?;
-    if numbers[0] != 6 {
-        show_under(rt, numbers, Compat::Npm, numbers[2], text, other)?;
-    }
-    Ok(())
-}
-
-// ---- a text longer than what is given of it
-
-// From the byte `from` on, each byte is the one two before it.
-fn repeat_two(text: &mut [u8], from: usize) {
-    let mut i = from;
-    while i < text.len() {
-        if i < 2 {
-            return;
+            other,
+        };
+        question.show(rt, self.call)?;
+        if matches!(self.call, Call::Plainform) {
+            return Ok(());
         }
-        text[i] = text[i - 2];
-        i += 1;
+        let under_npm = Question {
+            compat: Compat::Npm,
+            bytes: self.npm,
+            ..question
+        };
+        under_npm.show(rt, self.call)
     }
-}
 
-// The text begins with what is given, and goes on with the last two bytes of it.
-fn lengthen(given: &[u8], text: &mut [u8]) {
-    if given.len() <= text.len() {
-        put_bytes(text, 0, given);
-        repeat_two(text, given.len());
+    fn show_long(&self, rt: &impl Print) -> io::Result<()> {
+        let mut first = [0u8; 131072];
+        let mut second = [0u8; 65536];
+        let text = self.text.lengthen(&mut first);
+        let other = self.other.lengthen(&mut second);
+        self.show_call(rt, text, other)
     }
-}
 
-// A row's call, on as much of the two texts as the row says.
-fn show_sized(rt: &impl Print, numbers: [u64; 9], text: &[u8], other: &[u8]) -> io::Result<()> {
-    let n = at_most(numbers[5], text.len());
-    let k = at_most(numbers[7], other.len());
-    show_row(rt, numbers, &text[..n], &other[..k])
-}
-
-fn show_long(rt: &impl Print, numbers: [u64; 9], text: &[u8], other: &[u8]) -> io::Result<()> {
-    let mut whole = [0u8; 131072];
-    let mut second = [0u8; 65536];
-    lengthen(text, &mut whole);
-    lengthen(other, &mut second);
-    show_sized(rt, numbers, &whole, &second)
+    // The row, and behind it what the call answers and leaves.
+    fn show(&self, rt: &impl Print) -> io::Result<()> {
+        rt.write_all(self.line)?;
+        Shown::Whole.put_bytes(rt, self.text.bytes)?;
+        Shown::Whole.put_bytes(rt, self.other.bytes)?;
+        if self.text.is_cut() || self.other.is_cut() {
+            return self.show_long(rt);
+        }
+        self.show_call(rt, self.text.bytes, self.other.bytes)
+    }
 }
 
 // ---- the file
 
-// The place behind i, or the end.
-fn behind(s: &[u8], i: usize) -> usize
-    ensures { result ≤ length s.now }
-{
-    if i < s.len() {
-        return i + 1;
-    }
-    s.len()
-}
-
-// Reads nine numbers, each with one byte behind it; answers the place behind them.
-fn read_numbers(s: &[u8], numbers: &mut [u64; 9]) -> usize
-    ensures { result ≤ length s.now }
-{
-    let mut i = 0;
-    let mut at = 0;
-    while i < 9 {
-        let n = read_number(&s[at..]);
-        numbers[i] = n.value;
-        at = behind(s, s.len() - n.left);
-        i += 1;
-    }
-    at
-}
-
-// Shows a row of which the texts are given.
-fn show_given(rt: &impl Print, numbers: [u64; 9], text: &[u8], other: &[u8]) -> io::Result<()> {
-    put_line(rt, text)?;
-    put_line(rt, other)?;
-    if (numbers[5] > numbers[6]) | (numbers[7] > numbers[8]) {
-        return show_long(rt, numbers, text, other);
-    }
-    show_row(rt, numbers, text, other)
-}
-
-// Shows a row whose texts s begins with; answers the place behind them.
-fn show_texts(rt: &impl Print, numbers: [u64; 9], s: &[u8]) -> io::Result<usize>
-    ensures { IfOk result (λ n. n ≤ length s.now) }
-{
-    let n = at_most(numbers[6], s.len());
-    let from = behind(s, n);
-    let rest = &s[from..];
-    let k = at_most(numbers[8], rest.len());
-    show_given(rt, numbers, &s[..n], &rest[..k])?;
-    Ok(behind(s, from + k))
-}
-
-// Shows the first row; answers the place behind it.
-fn show_first(rt: &impl Print, s: &[u8]) -> io::Result<usize>
-    ensures { IfOk result (λ n. n ≤ length s.now) }
-{
-    let mut numbers = [0u64; 9];
-    let at = read_numbers(s, &mut numbers);
-    put(rt, &s[..at])?;
-    let len = show_texts(rt, numbers, &s[at..])?;
-    Ok(at + len)
-}
-
-fn replay(rt: &impl Print, rows: &[u8]) -> io::Result<()> {
-    let mut at = 0;
-    while at < rows.len() {
-        let len = show_first(rt, &rows[at..])?;
-        if len == 0 {
-            break;
-        }
-        at += len;
+// The file has fewer bytes than are read: of a longer one the last row would be cut off.
+fn run(rt: &(impl io::Input + Print + Clock), file: &mut [u8; 131072]) -> io::Result<()> {
+    let n = streams::read_all(rt, file)?;
+    for row in Rows(Rest { bytes: &file[..n] }) {
+        row.show(rt)?;
     }
     Ok(())
 }
 
-// The file has fewer bytes than are read: of a longer one the last row would be cut off.
-fn run(rt: &(impl io::Input + Print + Clock), rows: &mut [u8]) -> io::Result<()> {
-    let r = streams::read_all(rt, rows);
-    match r {
-        Input::Bytes(n) => replay(rt, &rows[..n]),
-        Input::Failed(error) => Err(error),
-    }
-}
-
-fn run_all(rt: &(impl io::Input + Print + Clock), rows: &mut [u8; 131072]) -> io::Result<()> {
-    run(rt, rows)
-}
-
 fn main(rt: HostRuntime) -> io::Result<()> {
-    run_all(&rt, &mut [0u8; 131072])
+    run(&rt, &mut [0u8; 131072])
 }

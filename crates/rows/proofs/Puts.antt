@@ -2,11 +2,10 @@
 -- Assumes nothing.
 use mathlib.Core.Path.{◌≡◌, refl, sym, ap, ◌∙◌}
 use mathlib.Core.List.{List, [], ◌∷◌, ◌++◌}
-use Prim.Native.Nat.{ℕ, ◌+◌, ◌-◌, ◌≤◌, ◌<◌}
+use Prim.Native.Nat.{ℕ, ◌+◌, ◌-◌, ◌≤◌}
 use native.Mathlib.Omega.{arith}
-use native.Mathlib.Numerals.{add-one}
-use lib.ListN.{length, take, drop, set, get_or, length-append}
-use lib.Seq.{sets, length-sets, drop-cons}
+use lib.ListN.{length, take, drop, set, length-append}
+use lib.Seq.{sets, length-sets}
 use borrow.Rule.Slice.PartMut.{put_mid}
 use Rattle.rows.specs.Put.{Put, onto}
 use Rattle.rows.proofs.Stores.{sets-append, part-back, sets-onto}
@@ -77,7 +76,3 @@ writing-next g t room = omega (arith, begins-length t, g.place, g.same)
 -- nothing is left to store
 pub writing-end : {start all now : List ℕ} {from at : ℕ} → Writing start from all now at [] → Put start from all now at
 writing-end g = record { stored = g.stores; place = omega (arith, g.place) }
-
--- a list from i on begins with its element at i
-pub begins-drop : (xs : List ℕ) (i : ℕ) → i < length xs → Begins (drop i xs) (get_or xs i 0 ∷ []) (drop (i + 1) xs)
-begins-drop xs i h = record { split = rw (add-one, drop-cons xs i 0) }

@@ -1,7 +1,6 @@
 -- The words that the code stores, by what it knows of a comparator and of an identifier.
 -- Assumes nothing.
-use Rattle.std.specs.Prelude.{ℕ, List, [], ◌∷◌, map}
-use Rattle.rules.specs.Bytes.{pick}
+use Rattle.std.specs.Prelude.{ℕ, List, [], ◌∷◌, length, map}
 use Rattle.rules.specs.Lists.{concat}
 use Rattle.rules.specs.Syntax as S
 use Rattle.rules.specs.Rows.{op_code, identifier_row}
@@ -17,9 +16,10 @@ comparator_words range place size c = range ∷ op_code (op_of c.op) ∷ c.major
 
 -- ---- identifiers
 
--- the row of an identifier that takes size bytes from place on
-unfoldable pub words_of : Identifier → ℕ → ℕ → List ℕ
-words_of i place size = pick i.number (0 ∷ i.value ∷ 0 ∷ []) (1 ∷ place ∷ size ∷ [])
+-- the row of an identifier that begins at place
+abbrev pub words_of : Identifier → ℕ → List ℕ
+words_of (Identifier.Number v) place = 0 ∷ v ∷ 0 ∷ []
+words_of (Identifier.Text w) place = 1 ∷ place ∷ length w.now ∷ []
 
 -- their rows, in a text of n bytes
 unfoldable pub identifier_rows : ℕ → List S.Identifier → List ℕ

@@ -1,3 +1,3 @@
-pub mod ChangeLaws
 pub mod AddLaws
+pub mod ChangeLaws
 pub mod ListLaws

@@ -1,24 +1,18 @@
--- What the calls know of a text, and what they hand back.
+-- What the calls hand back.
 -- Assumes nothing.
-use Rattle.std.specs.Prelude.{ℕ, ◌≡◌, List}
-use Rattle.rules.specs.Expansion.{Compat, Reading}
+use Rattle.std.specs.Prelude.{ℕ, Result, Ok, Err}
 use Rattle.rules.specs.Answers.{Answer, accepted, refused}
-use Rattle.rangeset.specs.Views.{number_of}
-use Rattle.shelf_rules.specs.Shelf.{Part, entry_reading}
+use Rattle.refusals.specs.Views.{number_of}
+use Rattle.refusals.specs.declared.Refusal.{Refusal}
+use Rattle.shelf_rules.specs.Shelf as S
 use Rattle.entries.specs.Views.{part_of}
-use Rattle.shelf.specs.declared.Change.{Change}
-use Rattle.shelf.specs.declared.Listing.{Listing}
-
--- none of 1 to 4 applies to the text of an entry
-pub record Enterable (m : Compat) (t : List ℕ) : Type 0 where
-  pub reads : Reading
-  pub is : entry_reading m t ≡ accepted reads
+use Rattle.entries.specs.declared.entries.Part.{Part}
 
 -- 02's number of a change; 0 where it is done
-abbrev pub change_of : Change → ℕ
-change_of Change.Done = 0
-change_of (Change.Refused r) = number_of r
+abbrev pub change_of : Result (Unit {0}) Refusal → ℕ
+change_of (Ok u) = 0
+change_of (Err r) = number_of r
 
-abbrev pub listing_of : Listing → Answer Part
-listing_of (Listing.Text p) = accepted (part_of p)
-listing_of (Listing.Refused r) = refused (number_of r)
+abbrev pub listing_of : Result Part Refusal → Answer S.Part
+listing_of (Ok p) = accepted (part_of p)
+listing_of (Err r) = refused (number_of r)

@@ -1,165 +1,94 @@
 // A shelf of parts in lent bytes (02, N1 and N3): make empty, add, remove and the listing. "Shelf", "part code", "entry" and "listing" are 02's words.
 #![tactic(auto)]
 
-ghost use Rattle.std.specs.Prelude.{◌≡◌};
+ghost use Rattle.std.specs.Prelude.{◌≡◌, Ok, Err, IfOk, MatchResult};
 ghost use Rattle.rules.specs.Answers.{text_of, reading_outcome};
 ghost use Rattle.range.specs.Views.{compat_of};
 ghost use Rattle.rangeset.specs.Views.{outcome_of};
 ghost use Rattle.shelf_rules.specs.Shelf.{refusal_of, shelf_after, entry_reading, empty_call, add_call, remove_call, text_call, list_call};
-ghost use Rattle.entries.specs.Views.{Counted};
-ghost use Rattle.shelf.specs.Views.{Enterable, change_of, listing_of};
+ghost use Rattle.shelf.specs.Views.{change_of, listing_of};
 
 use bounds::bounds_of;
-use entries::{
-    CAPACITY, Count, Found, Part, SHELF_BYTES, TEXT_BYTES, add_at, count_entries, find_code,
-    part_at, remove_at,
-};
+use entries::{CAPACITY, Entries, Part, SHELF_BYTES, TEXT_BYTES, add_at, remove_at};
 use memory::clear;
 use range::Compat;
-use rangeset::{Reading, Refusal, count, identifier_bytes};
+use rangeset::{RangeSet, identifier_bytes};
+use refusals::Refusal;
 
-#[derive(Clone, Copy)]
-pub enum Change {
-    Done,
-    Refused(Refusal),
-}
+// ---- the calls that change a shelf
 
-// ---- make empty
-
-pub fn make_empty(shelf: &mut [u8]) -> Change
+pub fn make_empty(shelf: &mut [u8]) -> Result<(), Refusal>
     ensures answer { change_of result ≡ refusal_of (empty_call shelf.old) }
     ensures bytes { shelf.new ≡ shelf_after (empty_call shelf.old) shelf.old }
 {
     let n = shelf.len();
-    if n == SHELF_BYTES {
-        clear(shelf, 0, n);
-        return Change::Done;
+    if n != SHELF_BYTES {
+        return Err(Refusal::NotShelf);
     }
-    Change::Refused(Refusal::NotShelf)
+    clear(shelf, 0, n);
+    Ok(())
 }
 
-// ---- add
-
-// What a text has, if none of 1 to 4 applies to it, with 96 as its length limit.
-fn count_text(text: &[u8], compat: Compat) -> Reading
-    ensures { outcome_of result ≡ reading_outcome (entry_reading (compat_of compat) text.now) }
+// The text of an entry, if none of 1 to 4 applies to it, with 96 as its length limit.
+#[tactic(auto, using(crate::proofs::AddLaws::text_long))]
+fn parse_text<'a>(text: &'a [u8], compat: Compat) -> Result<RangeSet<'a>, Refusal>
+    ensures answer { MatchResult result (λ set. outcome_of (Ok set.counts) ≡ reading_outcome (entry_reading (compat_of compat) text.now)) (λ r. outcome_of (Err r) ≡ reading_outcome (entry_reading (compat_of compat) text.now)) }
+    ensures of { IfOk result (λ set. (set.text ≡ text.entry) × (set.compat ≡ compat)) }
 {
     if text.len() > TEXT_BYTES {
-        return Reading::Refused(Refusal::TooLong);
+        return Err(Refusal::TooLong);
     }
-    count(text, compat)
+    RangeSet::parse(text, compat)
 }
 
-// To n entries, of a text to which none of 1 to 4 applies.
-fn add_read(shelf: &mut [u8], n: usize, code: u16, compat: Compat, text: &[u8]) -> Change
-    requires counted { Counted shelf.old n }
-    requires enterable { Enterable (compat_of compat) text.now }
+pub fn add(shelf: &mut [u8], code: u16, compat: Compat, text: &[u8]) -> Result<(), Refusal>
     ensures answer { change_of result ≡ refusal_of (add_call code (compat_of compat) text.now shelf.old) }
     ensures bytes { shelf.new ≡ shelf_after (add_call code (compat_of compat) text.now shelf.old) shelf.old }
 {
-    let f = find_code(&shelf[0..], n, code);
-    match f {
-        Found::At(k) => Change::Refused(Refusal::Code),
-        Found::Nothing => {
-            if n == CAPACITY {
-                return Change::Refused(Refusal::Full);
-            }
-            let b = bounds_of(text, compat);
-            add_at(shelf, n, code, compat, text, b);
-            Change::Done
-        }
+    let entries = Entries::of(shelf)?;
+    let set = parse_text(text, compat)?;
+    if entries.find_code(code).is_some() {
+        return Err(Refusal::Code);
     }
+    let n = entries.count;
+    if n == CAPACITY {
+        return Err(Refusal::Full);
+    }
+    add_at(shelf, n, code, compat, text, bounds_of(&set));
+    Ok(())
 }
 
-fn add_counted(shelf: &mut [u8], n: usize, code: u16, compat: Compat, text: &[u8]) -> Change
-    requires { Counted shelf.old n }
-    ensures answer { change_of result ≡ refusal_of (add_call code (compat_of compat) text.now shelf.old) }
-    ensures bytes { shelf.new ≡ shelf_after (add_call code (compat_of compat) text.now shelf.old) shelf.old }
-{
-    let r = count_text(text, compat);
-    match r {
-        Reading::Refused(refusal) => Change::Refused(refusal),
-        Reading::Accepted(c) => add_read(shelf, n, code, compat, text),
-    }
-}
-
-pub fn add(shelf: &mut [u8], code: u16, compat: Compat, text: &[u8]) -> Change
-    ensures answer { change_of result ≡ refusal_of (add_call code (compat_of compat) text.now shelf.old) }
-    ensures bytes { shelf.new ≡ shelf_after (add_call code (compat_of compat) text.now shelf.old) shelf.old }
-{
-    let c = count_entries(&shelf[0..]);
-    match c {
-        Count::NotShelf => Change::Refused(Refusal::NotShelf),
-        Count::Entries(n) => add_counted(shelf, n, code, compat, text),
-    }
-}
-
-// ---- remove
-
-// The first of n entries with the part code goes.
-fn remove_counted(shelf: &mut [u8], n: usize, code: u16) -> Change
-    requires { Counted shelf.old n }
+// The first entry with the part code goes.
+pub fn remove(shelf: &mut [u8], code: u16) -> Result<(), Refusal>
     ensures answer { change_of result ≡ refusal_of (remove_call code shelf.old) }
     ensures bytes { shelf.new ≡ shelf_after (remove_call code shelf.old) shelf.old }
 {
-    let f = find_code(&shelf[0..], n, code);
-    match f {
-        Found::Nothing => Change::Refused(Refusal::Code),
-        Found::At(k) => {
-            remove_at(shelf, n, k);
-            Change::Done
-        }
-    }
-}
-
-pub fn remove(shelf: &mut [u8], code: u16) -> Change
-    ensures answer { change_of result ≡ refusal_of (remove_call code shelf.old) }
-    ensures bytes { shelf.new ≡ shelf_after (remove_call code shelf.old) shelf.old }
-{
-    let c = count_entries(&shelf[0..]);
-    match c {
-        Count::NotShelf => Change::Refused(Refusal::NotShelf),
-        Count::Entries(n) => remove_counted(shelf, n, code),
-    }
+    let entries = Entries::of(shelf)?;
+    let n = entries.count;
+    let k = entries.find_code(code).ok_or(Refusal::Code)?;
+    remove_at(shelf, n, k);
+    Ok(())
 }
 
 // ---- the listing
 
-#[derive(Clone, Copy)]
-pub enum Listing {
-    Text(Part),
-    Refused(Refusal),
-}
-
-fn list_counted(shelf: &[u8], n: usize, code: u16) -> Listing
-    requires { Counted shelf.now n }
-    ensures { listing_of result ≡ list_call code shelf.now }
-{
-    let f = find_code(shelf, n, code);
-    match f {
-        Found::Nothing => Listing::Refused(Refusal::Code),
-        Found::At(k) => Listing::Text(part_at(shelf, k)),
-    }
-}
-
 // Where the text of the first entry with the part code stands.
-pub fn list(shelf: &[u8], code: u16) -> Listing
+#[tactic(auto, using(crate::proofs::ListLaws::lists))]
+pub fn list(shelf: &[u8], code: u16) -> Result<Part, Refusal>
     ensures { listing_of result ≡ list_call code shelf.now }
 {
-    let c = count_entries(shelf);
-    match c {
-        Count::NotShelf => Listing::Refused(Refusal::NotShelf),
-        Count::Entries(n) => list_counted(shelf, n, code),
-    }
+    let entries = Entries::of(shelf)?;
+    let k = entries.find_code(code).ok_or(Refusal::Code)?;
+    Ok(entries.part_at(k))
 }
 
 // That text itself, as a part of the shelf; the empty part where the listing is refused.
+#[tactic(auto, using(crate::proofs::ListLaws::texts))]
 pub fn text<'a>(shelf: &'a [u8], code: u16) -> &'a [u8]
     ensures { result.now ≡ text_of (text_call code shelf.now) }
 {
-    let a = list(shelf, code);
-    match a {
-        Listing::Text(p) => identifier_bytes(shelf, p.place, p.length),
-        Listing::Refused(refusal) => identifier_bytes(shelf, 0, 0),
+    match list(shelf, code) {
+        Ok(part) => identifier_bytes(shelf, part.place, part.length),
+        Err(_) => &shelf[..0],
     }
 }

@@ -18,27 +18,91 @@
 //     7  the lookup of the version that is the text, as first fit
 #![tactic(auto)]
 
-ghost use Rattle.std.specs.Prelude.{◌≤◌, ◌<◌, IfOk, length};
+ghost use Rattle.std.specs.Prelude.{◌<◌, length};
+ghost use Rattle.std.specs.Iterator.{at_most};
 
-use lexer::read_number;
+use data_rows::{Rest, at_most};
 use maluwesi_shelf::{
     maluwesi_shelf_add, maluwesi_shelf_clear, maluwesi_shelf_find, maluwesi_shelf_first_fit,
     maluwesi_shelf_lookup, maluwesi_shelf_remove,
 };
-use memory::wide;
 use std::io;
 use std::time::Clock;
-use streams::Input;
+
+// ---- rows
+
+#[derive(Clone, Copy)]
+enum Call {
+    Heading,
+    Clear,
+    Add,
+    Remove,
+    Find,
+    FirstFit,
+    SetByte,
+    Lookup,
+}
+
+// A number that is no call's sets a byte, as 6 does.
+impl From<u64> for Call {
+    fn from(number: u64) -> Call {
+        match number {
+            0 => Call::Heading,
+            1 => Call::Clear,
+            2 => Call::Add,
+            3 => Call::Remove,
+            4 => Call::Find,
+            5 => Call::FirstFit,
+            7 => Call::Lookup,
+            _ => Call::SetByte,
+        }
+    }
+}
+
+// A row: its line, what the line's numbers say, and the text.
+#[derive(Clone, Copy)]
+struct Row<'a> {
+    line: &'a [u8],
+    call: Call,
+    size: u64,
+    code: u16,
+    mode: u8,
+    text: &'a [u8],
+}
+
+#[derive(Drop)]
+struct Rows<'a>(Rest<'a>);
+
+impl<'a> Iterator for Rows<'a> {
+    type Item = Row<'a>;
+
+    ghost remaining = { λ s. at_most (length s.0.bytes.now) };
+
+    fn next(&mut self) -> Option<Row<'a>> {
+        let start = self.0.bytes;
+        if start.is_empty() {
+            return None;
+        }
+        let rest = &mut self.0;
+        let call = Call::from(rest.number());
+        let size = rest.number();
+        let code = (rest.number() % 65536) as u16;
+        let mode = (rest.number() % 256) as u8;
+        let length = rest.number();
+        let line = &start[..start.len() - rest.bytes.len()];
+        let text = rest.text(length);
+        Some(Row {
+            line,
+            call,
+            size,
+            code,
+            mode,
+            text,
+        })
+    }
+}
 
 // ---- what is printed
-
-fn put(rt: &impl Print, text: &[u8]) -> io::Result<()> {
-    rt.write_all(text)
-}
-
-fn put_number(rt: &impl Print, n: u64) -> io::Result<()> {
-    print!(rt; " {n}")
-}
 
 // The sum of two, by the modulus of Adler-32.
 fn plus(a: u64, b: u64) -> u64
@@ -48,17 +112,11 @@ fn plus(a: u64, b: u64) -> u64
 }
 
 fn put_checksum(rt: &impl Print, s: &[u8]) -> io::Result<()> {
-    let mut a = 1;
-    let mut b = 0;
-    let mut i = 0;
-    while i < s.len() {
-        a = plus(a, wide(s[i]) as u64);
-        b = plus(b, a);
-        i += 1;
-    }
-    put_number(rt, b)?;
-    put_number(rt, a)?;
-    put(rt, b"\n")
+    let (a, b) = s.iter().fold((1, 0), |(a, b), byte| {
+        let next = plus(a, u64::from(*byte));
+        (next, plus(b, next))
+    });
+    println!(rt; " {b} {a}")
 }
 
 // ---- the calls
@@ -66,157 +124,78 @@ fn put_checksum(rt: &impl Print, s: &[u8]) -> io::Result<()> {
 fn show_find(rt: &impl Print, shelf: &[u8], code: u16) -> io::Result<()> {
     let mut place = 1;
     let mut len = 1;
-    put_number(rt, maluwesi_shelf_find(shelf, code, &mut place, &mut len))?;
-    put_number(rt, place as u64)?;
-    put_number(rt, len as u64)
+    let number = maluwesi_shelf_find(shelf, code, &mut place, &mut len);
+    print!(rt; " {number} {place} {len}")
 }
 
-fn show_fit(rt: &impl Print, shelf: &[u8], version: &[u8]) -> io::Result<()> {
+// What first fit or the lookup answers.
+fn show_fit<F: FnOnce(&mut u8, &mut u16) -> u64>(rt: &impl Print, fit: F) -> io::Result<()>
+    requires { F.IsAlwaysCallable fit }
+{
     let mut found = 1;
     let mut code = 1;
-    put_number(
-        rt,
-        maluwesi_shelf_first_fit(shelf, version, &mut found, &mut code),
-    )?;
-    put_number(rt, found as u64)?;
-    put_number(rt, code as u64)
-}
-
-fn show_lookup(rt: &impl Print, shelf: &[u8], version: &[u8]) -> io::Result<()> {
-    let mut found = 1;
-    let mut code = 1;
-    put_number(
-        rt,
-        maluwesi_shelf_lookup(shelf, version, &mut found, &mut code),
-    )?;
-    put_number(rt, found as u64)?;
-    put_number(rt, code as u64)
+    let number = fit(&mut found, &mut code);
+    print!(rt; " {number} {found} {code}")
 }
 
 fn set_byte(shelf: &mut [u8], at: u16, byte: u8) {
-    let i = at as usize;
-    if i < shelf.len() {
-        shelf[i] = byte;
+    if let Some(place) = shelf.get_mut(at as usize) {
+        *place = byte;
     }
 }
 
-fn show(
-    rt: &impl Print,
-    call: u64,
-    shelf: &mut [u8],
-    code: u16,
-    mode: u8,
-    text: &[u8],
-) -> io::Result<()> {
-    match call {
-        0 => put(rt, b""),
-        1 => put_number(rt, maluwesi_shelf_clear(shelf)),
-        2 => put_number(rt, maluwesi_shelf_add(shelf, code, mode, text)),
-        3 => put_number(rt, maluwesi_shelf_remove(shelf, code)),
-        4 => show_find(rt, shelf, code),
-        5 => show_fit(rt, shelf, text),
-        7 => show_lookup(rt, shelf, text),
-        _ => {
-            set_byte(shelf, code, mode);
-            Ok(())
+impl Row<'_> {
+    fn show_call(&self, rt: &impl Print, shelf: &mut [u8]) -> io::Result<()> {
+        let text = self.text;
+        match self.call {
+            Call::Heading => Ok(()),
+            Call::Clear => print!(rt; " {}", maluwesi_shelf_clear(shelf)),
+            Call::Add => print!(rt;
+                " {}",
+                maluwesi_shelf_add(shelf, self.code, self.mode, text)
+            ),
+            Call::Remove => print!(rt; " {}", maluwesi_shelf_remove(shelf, self.code)),
+            Call::Find => show_find(rt, shelf, self.code),
+            Call::FirstFit => show_fit(rt, |found, code| {
+                maluwesi_shelf_first_fit(shelf, text, found, code)
+            }),
+            Call::Lookup => show_fit(rt, |found, code| {
+                maluwesi_shelf_lookup(shelf, text, found, code)
+            }),
+            Call::SetByte => {
+                set_byte(shelf, self.code, self.mode);
+                Ok(())
+            }
         }
     }
-}
 
-// So many, or as many as there are.
-fn at_most(n: u64, room: usize) -> usize
-    ensures { result ≤ room }
-{
-    if n > room as u64 {
-        return room;
+    // The row, and behind it what the call answers and leaves.
+    fn show(&self, rt: &impl Print, memory: &mut [u8]) -> io::Result<()> {
+        rt.write_all(self.line)?;
+        rt.write_all(self.text)?;
+        rt.write_all(b"\n")?;
+        let n = at_most(self.size, memory.len());
+        let shelf = &mut memory[..n];
+        self.show_call(rt, shelf)?;
+        put_checksum(rt, shelf)
     }
-    n as usize
-}
-
-fn show_row(rt: &impl Print, numbers: [u64; 5], text: &[u8], memory: &mut [u8]) -> io::Result<()> {
-    let n = at_most(numbers[1], memory.len());
-    let code = (numbers[2] % 65536) as u16;
-    let mode = (numbers[3] % 256) as u8;
-    let shelf = &mut memory[..n];
-    show(rt, numbers[0], shelf, code, mode, text)?;
-    put_checksum(rt, shelf)
 }
 
 // ---- the file
 
-// The place behind i, or the end.
-fn behind(s: &[u8], i: usize) -> usize
-    ensures { result ≤ length s.now }
-{
-    if i < s.len() {
-        return i + 1;
-    }
-    s.len()
-}
-
-// Reads five numbers, each with one byte behind it; answers the place behind them.
-fn read_numbers(s: &[u8], numbers: &mut [u64; 5]) -> usize
-    ensures { result ≤ length s.now }
-{
-    let mut i = 0;
-    let mut at = 0;
-    while i < 5 {
-        let n = read_number(&s[at..]);
-        numbers[i] = n.value;
-        at = behind(s, s.len() - n.left);
-        i += 1;
-    }
-    at
-}
-
-// Shows the first row; answers the place behind it.
-fn show_first(rt: &impl Print, s: &[u8], memory: &mut [u8]) -> io::Result<usize>
-    ensures { IfOk result (λ n. n ≤ length s.now) }
-{
-    let mut numbers = [0u64; 5];
-    let at = read_numbers(s, &mut numbers);
-    let rest = &s[at..];
-    let n = at_most(numbers[4], rest.len());
-    put(rt, &s[..at])?;
-    put(rt, &rest[..n])?;
-    put(rt, b"\n")?;
-    show_row(rt, numbers, &rest[..n], memory)?;
-    Ok(behind(s, at + n))
-}
-
-fn replay(rt: &impl Print, rows: &[u8], memory: &mut [u8]) -> io::Result<()> {
-    let mut at = 0;
-    while at < rows.len() {
-        let len = show_first(rt, &rows[at..], memory)?;
-        if len == 0 {
-            break;
-        }
-        at += len;
+// The file has fewer bytes than are read: of a longer one the last row would be cut off.
+fn run(
+    rt: &(impl io::Input + Print + Clock),
+    file: &mut [u8],
+    memory: &mut [u8],
+) -> io::Result<()> {
+    let n = streams::read_all(rt, file)?;
+    for row in Rows(Rest { bytes: &file[..n] }) {
+        row.show(rt, memory)?;
     }
     Ok(())
 }
 
-// The file has fewer bytes than are read: of a longer one the last row would be cut off.
-fn run(
-    rt: &(impl io::Input + Print + Clock),
-    rows: &mut [u8],
-    memory: &mut [u8],
-) -> io::Result<()> {
-    let r = streams::read_all(rt, rows);
-    match r {
-        Input::Bytes(n) => replay(rt, &rows[..n], memory),
-        Input::Failed(error) => Err(error),
-    }
-}
-
-fn run_all(
-    rt: &(impl io::Input + Print + Clock),
-    rows: &mut [u8; 16384],
-    memory: &mut [u8; 37891],
-) -> io::Result<()> {
-    run(rt, rows, memory)
-}
-
 fn main(rt: HostRuntime) -> io::Result<()> {
-    run_all(&rt, &mut [0u8; 16384], &mut [0u8; 37891])
+    run(&rt, &mut [0u8; 16384], &mut [0u8; 37891])
 }

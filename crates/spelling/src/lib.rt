@@ -70,12 +70,9 @@ pub fn put_bytes(out: &mut [u8], at: usize, w: &[u8]) -> usize
     requires { at + length w.now ≤ length out.old }
     ensures { Put out.old at w.now out.new result }
 {
-    let mut i = 0;
-    while i < w.len() {
-        out[at + i] = w[i];
-        i += 1;
-    }
-    at + i
+    let end = at + w.len();
+    out[at..end].copy_from_slice(w);
+    end
 }
 
 // `refused`, a blank and the number.
@@ -89,42 +86,27 @@ pub fn put_refused(out: &mut [u8], at: usize, n: u64) -> usize
 
 // ---- comparators
 
+#[tactic(auto, unfolding(rules::specs::NormalText::spell_op))]
 fn op_len(op: Op) -> usize
     ensures value { result ≡ length (spell_op (op_of op)) }
     ensures small { result ≤ 2 }
 {
-    let s = op.spelling();
-    s.len
-}
-
-fn put_op(out: &mut [u8], at: usize, op: Op) -> usize
-    requires { at + length (spell_op (op_of op)) ≤ length out.old }
-    ensures { Put out.old at (spell_op (op_of op)) out.new result }
-{
-    let s = op.spelling();
-    out[at] = s.bytes[0];
-    if s.len == 1 {
-        return at + 1;
-    }
-    out[at + 1] = s.bytes[1];
-    at + 2
+    op.spelling().len()
 }
 
 // How many bytes a comparator has without its identifiers.
-pub fn comparator_len(c: Comparator) -> usize
-    ensures value { result ≡ length (spelled_triple c) }
+pub fn comparator_len(c: &Comparator<'_>) -> usize
+    ensures value { result ≡ length (spelled_triple c.now) }
     ensures small { result ≤ 64 }
 {
-    let op = c.op;
-    op_len(op) + decimal_len(c.major) + 1 + decimal_len(c.minor) + 1 + decimal_len(c.patch)
+    op_len(c.op) + decimal_len(c.major) + 1 + decimal_len(c.minor) + 1 + decimal_len(c.patch)
 }
 
 // The operator, then major, minor and patch with dots between: a comparator without its identifiers.
-pub fn put_comparator(out: &mut [u8], at: usize, c: Comparator) -> usize
-    requires { at + length (spelled_triple c) ≤ length out.old }
-    ensures { Put out.old at (spelled_triple c) out.new result }
+pub fn put_comparator(out: &mut [u8], at: usize, c: &Comparator<'_>) -> usize
+    requires { at + length (spelled_triple c.now) ≤ length out.old }
+    ensures { Put out.old at (spelled_triple c.now) out.new result }
 {
-    let op = c.op;
-    let i = put_op(out, at, op);
+    let i = put_bytes(out, at, c.op.spelling());
     put_triple(out, i, c.major, c.minor, c.patch)
 }

@@ -1,113 +1,58 @@
 -- The writers of a step's rows: a law for each of their ways.
 -- Assumes nothing.
-use Prim.Native.Nat.{ℕ, ◌+◌, ◌-◌, ◌≤◌}
-use mathlib.Core.Path.{◌≡◌, refl, sym, ap, ◌∙◌}
-use mathlib.Core.List.{List, []}
-use native.Mathlib.Omega.{arith}
-use lib.ListN.{length, take, drop, length-append, length-take, length-drop}
+use Rattle.std.proofs.Common.{ℕ, ◌+◌, ◌-◌, ◌≤◌, ◌≡◌, refl, sym, ap, ◌∙◌, List, ◌++◌, length, take, drop, Option, Some, None, arith}
+use lib.ListN.{length-append, length-take, length-drop}
 use borrow.Rule.Slice.PartMut.{put_mid}
-use Rattle.partial.specs.declared.Op.{Op}
+use Rattle.range.specs.Views.{raised_partial}
 use Rattle.partial.specs.declared.Comparator.{Comparator}
-use Rattle.range.specs.declared.Kept.TheVariants as Kept
-use Rattle.range.specs.declared.Raised.{Raised}
-use Rattle.walk.specs.declared.Step.{Step}
-use Rattle.rules.specs.Rows.{comparator_width}
+use Rattle.walk.specs.Views.{Stepped}
 use Rattle.rows.specs.Put.{Put}
-use Rattle.rows.specs.Views.{comparator_words}
 use Rattle.rows.proofs.Puts.{put_then, put-part, put_same}
-use Rattle.passes.specs.Views.{raised_count, kept_with, raised_to}
-use Rattle.step_rows.specs.Views.{kept_in, raised_in, step_comparator_words}
-
--- nothing is written
-pub put-nothing : (l : List ℕ) → Put l 0 [] l 0
-put-nothing l = record { stored = refl; place = refl }
-
-module _ (l : List ℕ) (k place size : ℕ) (x : Step) where
-  -- ---- put_kept
-
-  module _ (o : Op) (e : x.kept ≡ Kept.Op o) where
-    pub kept-room : length (kept_in k place size x.kept x) ≤ length l → comparator_width ≤ length l
-    kept-room h = rw e at h
-
-    pub kept_put : (c : Comparator) → c ≡ kept_with o x → (m : List ℕ) → Put l 0 (comparator_words k place size c) m comparator_width → Put l 0 (kept_in k place size x.kept x) m comparator_width
-    kept_put c i m p = rw e (rw i at p)
-
-  pub kept-none : x.kept ≡ Kept.Nothing → Put l 0 (kept_in k place size x.kept x) l 0
-  kept-none e = rw e (put-nothing l)
-
-pub ruleset keeping = (kept-room, kept_put, kept-none)
-
--- ---- put_raised
-
-module _ (l : List ℕ) (k place size : ℕ) (x : Step) (n : ℕ) (q : n ≡ raised_count x.raised) where
-  row-none : (r : Raised) → raised_count r ≡ 0 → raised_in k place size r x ≡ []
-  row-none Raised.Major e = cc
-  row-none Raised.Minor e = cc
-  row-none Raised.Patch e = cc
-  row-none Raised.Nothing e = refl
-
-  row-some : (r : Raised) → (raised_count r ≡ 0 → ⊥) → raised_in k place size r x ≡ comparator_words k place size (raised_to r x)
-  row-some Raised.Major e = refl
-  row-some Raised.Minor e = refl
-  row-some Raised.Patch e = refl
-  row-some Raised.Nothing e = absurd (e refl)
-
-  pub raised-none : n ≡ 0 → Put l 0 (raised_in k place size x.raised x) l 0
-  raised-none e = rw (row-none x.raised (sym q ∙ e)) (put-nothing l)
-
-  module _ (z : n ≡ 0 → ⊥) where
-    row : raised_in k place size x.raised x ≡ comparator_words k place size (raised_to x.raised x)
-    row = row-some x.raised λ e. z (q ∙ e)
-
-    pub raised-room : length (raised_in k place size x.raised x) ≤ length l → comparator_width ≤ length l
-    raised-room h = omega (arith, h, ap length row)
-
-    pub raised-put : (c : Comparator) → c ≡ raised_to x.raised x → (m : List ℕ) → Put l 0 (comparator_words k place size c) m comparator_width → Put l 0 (raised_in k place size x.raised x) m comparator_width
-    raised-put c e m p = rw row (rw e at p)
-
-pub ruleset raisings = (raised-none, raised-room, raised-put)
+use Rattle.passes.specs.Views.{listed, counted, kept_gives, raised_gives}
+use Rattle.step_rows.specs.declared.Item.{Item}
+use Rattle.step_rows.specs.Views.{row_words, rows_with, step_comparator_words}
 
 -- ---- put_comparators
 
-module _ (l : List ℕ) (k place size : ℕ) (x : Step) (h : length (step_comparator_words k place size x) ≤ length l) where
-  both : length (kept_in k place size x.kept x) + length (raised_in k place size x.raised x) ≤ length l
-  unfolding step_comparator_words
-  both = omega (arith, h, length-append (kept_in k place size x.kept x) (raised_in k place size x.raised x))
+row_is : (t : Item) (n : ℕ) (o : Option Comparator) → counted n o → row_words t o ≡ rows_with t n (listed o)
+row_is t n None h = refl
+row_is t n (Some c) h = rw h
 
-  pub step_kept : length (kept_in k place size x.kept x) ≤ length l
-  step_kept = omega (arith, both)
+module _ (l : List ℕ) (t : Item) (x : Stepped) (r : length (step_comparator_words t x) ≤ length l) where
+  abbrev raised_words : List ℕ
+  raised_words = rows_with t (raised_partial x.raised x.partial).count (raised_gives x)
 
-  module _ (m : List ℕ) (at : ℕ) (p : Put l 0 (kept_in k place size x.kept x) m at) where
-    pub step-within : at ≤ length m
-    step-within = omega (arith, both, p.place, put_same p)
+  module _ (a : Option Comparator) (e : listed a ≡ kept_gives x) (h : counted x.partial.count a) where
+    words : step_comparator_words t x ≡ row_words t a ++ raised_words
+    unfolding step_comparator_words
+    words = sym (ap (λ w. w ++ raised_words) (row_is t _ a h ∙ ap (rows_with t _) e))
 
-    pub step-raised : length (raised_in k place size x.raised x) ≤ length (take (length m - at) (drop at m))
-    step-raised = simp (length-take, length-drop) (omega (arith, both, p.place, put_same p))
+    room : length (row_words t a) + length raised_words ≤ length l
+    room = omega (arith, ap length words, length-append (row_words t a) raised_words)
 
-    module _ (y : List ℕ) (n : ℕ) (q : Put (take (length m - at) (drop at m)) 0 (raised_in k place size x.raised x) y n) where
-      pub step_fits : at + n ≤ length l
-      step_fits = omega (arith, both, p.place, q.place)
+    pub step_kept : length (row_words t a) ≤ length l
+    step_kept = omega (arith, room)
 
-      pub step-put : Put l 0 (step_comparator_words k place size x) (put_mid at (length m - at) m y) (at + n)
-      unfolding step_comparator_words
-      step-put = put_then p (put-part q)
+    module _ (m : List ℕ) (at : ℕ) (p : Put l 0 (row_words t a) m at) where
+      pub step_within : at ≤ length m
+      step_within = omega (arith, room, p.place, put_same p)
 
-pub ruleset stepping = (step_kept, step-within, step-raised, step_fits, step-put)
+      module _ (b : Option Comparator) (f : listed b ≡ raised_gives x) (i : counted (raised_partial x.raised x.partial).count b) where
+        raised_is : row_words t b ≡ raised_words
+        raised_is = row_is t _ b i ∙ ap (rows_with t _) f
 
--- ---- from a place on
+        pub step_raised : length (row_words t b) ≤ length (take (length m - at) (drop at m))
+        step_raised = simp (length-take, length-drop) (omega (arith, room, ap length raised_is, p.place, put_same p))
 
-module _ (l w : List ℕ) (at : ℕ) (h : at + length w ≤ length l) where
-  pub at-within : at ≤ length l
-  at-within = omega arith
+        module _ (y : List ℕ) (n : ℕ) (q : Put (take (length m - at) (drop at m)) 0 (row_words t b) y n) where
+          pub step_fits : at + n ≤ length l
+          step_fits = omega (arith, room, ap length raised_is, p.place, q.place)
 
-  pub at_room : length w ≤ length (take (length l - at) (drop at l))
-  at_room = simp (length-take, length-drop) (omega arith)
+          pub step_put : Put l 0 (step_comparator_words t x) (put_mid at (length m - at) m y) (at + n)
+          step_put = rw (words, ← raised_is) (put_then p (put-part q))
 
-  module _ (y : List ℕ) (n : ℕ) (p : Put (take (length l - at) (drop at l)) 0 w y n) where
-    pub at-fits : at + n ≤ length l
-    at-fits = omega (arith, p.place)
+pub ruleset stepping = (step_kept, step_within, step_fits)
 
-    pub at-put : Put l at w (put_mid at (length l - at) l y) (at + n)
-    at-put = put-part p
+-- ---- put_step
 
-pub ruleset placing = (at-within, at_room, at-fits, at-put)
+pub ruleset placing = (put-part)

@@ -1,96 +1,72 @@
-// The rows of a step of the walk: at most two comparators, and the identifiers of its qualifier.
+// The rows of a step of the walk: at most two comparators, and the identifiers of its partial.
 #![tactic(auto)]
 
-ghost use Rattle.std.specs.Prelude.{◌+◌, ◌*◌, ◌≤◌, length};
-ghost use Rattle.rules.specs.Rows.{comparator_width};
+ghost use Rattle.std.specs.Prelude.{◌+◌, ◌≤◌, length};
 ghost use Rattle.rows.specs.Put.{Put};
-ghost use Rattle.passes.specs.Views.{Raisable, Signed};
-ghost use Rattle.step_rows.specs.Views.{kept_in, raised_in, step_comparator_words, step_identifier_words};
+ghost use Rattle.walk.specs.Views.{step_is};
+ghost use Rattle.step_rows.specs.Views.{row_words, step_comparator_words, step_identifier_words};
 
-use passes::{kept_with, raised_count, raised_to};
-use range::Kept;
+use partial::Comparator;
+use passes::{as_read, raised};
 use rows::{COMPARATOR_WORDS, put_comparator, put_identifiers};
 use walk::Step;
 
-// ---- the rows of a step
+// What rows are of: the number of the range, and the place and the size of the item in the text.
+#[derive(Clone, Copy)]
+pub struct Item {
+    pub range: u64,
+    pub place: usize,
+    pub size: usize,
+}
 
-// The row under the operator that is kept, if one is; answers how many words that is. The item takes size bytes from place on.
-fn put_kept(words: &mut [u64], range: u64, place: usize, size: usize, x: Step) -> usize
-    requires { length (kept_in range place size x.kept x) ≤ length words.old }
-    ensures put { Put words.old 0 (kept_in range place size x.kept x) words.new result }
-    ensures small { result ≤ comparator_width }
+// How many words of comparator rows are written, and how many of identifier rows.
+#[derive(Clone, Copy)]
+pub struct Written {
+    pub words: usize,
+    pub ids: usize,
+}
+
+// The row of a comparator, if there is one; answers how many words that is.
+fn put_row(words: &mut [u64], item: Item, comparator: Option<Comparator<'_>>) -> usize
+    requires { length (row_words item comparator) ≤ length words.old }
+    ensures { Put words.old 0 (row_words item comparator.entry) words.new result }
 {
-    let kept = x.kept;
-    match kept {
-        Kept::Op(op) => {
-            put_comparator(words, range, place, size, kept_with(op, x));
+    match comparator {
+        Some(c) => {
+            put_comparator(words, item.range, item.place, item.size, c);
             COMPARATOR_WORDS
         }
-        Kept::Nothing => 0,
+        None => 0,
     }
 }
 
-// The row with the raised component, if one is.
-fn put_raised(words: &mut [u64], range: u64, place: usize, size: usize, x: Step) -> usize
-    requires raisable { Raisable x.raised x }
-    requires x_in_bounds { length (raised_in range place size x.raised x) ≤ length words.old }
-    ensures put { Put words.old 0 (raised_in range place size x.raised x) words.new result }
-    ensures small { result ≤ comparator_width }
+// The rows of a step's comparators.
+#[tactic(auto, using(crate::proofs::Writing::stepping))]
+fn put_comparators(words: &mut [u64], item: Item, x: &Step<'_>) -> usize
+    requires { length (step_comparator_words item (step_is x.now)) ≤ length words.old }
+    ensures { Put words.old 0 (step_comparator_words item (step_is x.now)) words.new result }
 {
-    let raised = x.raised;
-    if raised_count(raised) == 0 {
-        return 0;
-    }
-    put_comparator(words, range, place, size, raised_to(x));
-    COMPARATOR_WORDS
+    let at = put_row(words, item, as_read(x));
+    at + put_row(&mut words[at..], item, raised(x))
 }
 
-// The comparator rows of a step, in the range with this number.
-fn put_comparators(words: &mut [u64], range: u64, place: usize, size: usize, x: Step) -> usize
-    requires raisable { Raisable x.raised x }
-    requires x_in_bounds { length (step_comparator_words range place size x) ≤ length words.old }
-    ensures put { Put words.old 0 (step_comparator_words range place size x) words.new result }
-    ensures small { result ≤ 2 * comparator_width }
-{
-    let at = put_kept(words, range, place, size, x);
-    at + put_raised(&mut words[at..], range, place, size, x)
-}
-
-// The identifier rows of a step. Its qualifier's sign stands where from bytes of the text are left.
-fn put_qualifier(s: &[u8], x: Step, ids: &mut [u64]) -> usize
-    requires signed { Signed s.now x }
-    requires x_in_bounds { length (step_identifier_words s.now x) ≤ length ids.old }
-    ensures { Put ids.old 0 (step_identifier_words s.now x) ids.new result }
-{
-    if x.count == 0 {
-        return 0;
-    }
-    let at = s.len() - (x.from - 1);
-    put_identifiers(&s[at..], at, ids)
-}
-
-// ---- the rows of a step, behind those that are written
-
-// From word `at` on; answers the place behind them.
-pub fn put_comparators_at(
+// All rows of a step of the text s, behind those that are written; answers how many then are.
+#[tactic(auto, using(crate::proofs::Writing::placing), unfolding(crate::specs::Views::step_identifier_words))]
+pub fn put_step(
+    s: &[u8],
+    item: Item,
+    x: &Step<'_>,
     words: &mut [u64],
-    at: usize,
-    range: u64,
-    place: usize,
-    size: usize,
-    x: Step,
-) -> usize
-    requires raisable { Raisable x.raised x }
-    requires x_in_bounds { at + length (step_comparator_words range place size x) ≤ length words.old }
-    ensures { Put words.old at (step_comparator_words range place size x) words.new result }
+    ids: &mut [u64],
+    written: Written,
+) -> Written
+    requires words_room { written.words + length (step_comparator_words item (step_is x.now)) ≤ length words.old }
+    requires ids_room { written.ids + length (step_identifier_words (length s.now) (step_is x.now)) ≤ length ids.old }
+    ensures words { Put words.old written.words (step_comparator_words item (step_is x.now)) words.new result.words }
+    ensures ids { Put ids.old written.ids (step_identifier_words (length s.now) (step_is x.now)) ids.new result.ids }
 {
-    at + put_comparators(&mut words[at..], range, place, size, x)
-}
-
-pub fn put_qualifier_at(s: &[u8], x: Step, ids: &mut [u64], at: usize) -> usize
-    requires signed { Signed s.now x }
-    requires x_in_bounds { at + length (step_identifier_words s.now x) ≤ length ids.old }
-    ensures { Put ids.old at (step_identifier_words s.now x) ids.new result }
-{
-    at + put_qualifier(s, x, &mut ids[at..])
+    Written {
+        words: written.words + put_comparators(&mut words[written.words..], item, x),
+        ids: written.ids + put_identifiers(x.partial.identifiers, s.len(), &mut ids[written.ids..]),
+    }
 }

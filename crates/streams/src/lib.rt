@@ -3,11 +3,9 @@
 // can say which bytes are read or written.
 #![tactic(auto)]
 
-ghost use Rattle.std.specs.Prelude.{◌≡◌, ◌&&◌, ◌≤◌, IfOk, eqb, length};
-ghost use Rattle.lexer.specs.Views.{starts_with};
-ghost use Rattle.streams.specs.Views.{IsPrefixLen, bytes_of};
+ghost use Rattle.std.specs.Prelude.{◌≤◌, IfOk, length};
+ghost use Rattle.streams.specs.Views.{IsPrefixLen};
 
-use lexer::starts_with;
 use std::env::{Env, FillError};
 use std::io::{Cursor, ErrorKind, Read, Write};
 use std::time::{Clock, Duration};
@@ -15,151 +13,129 @@ use std::{fmt, io, str, thread};
 
 // ---- calls that are tried again
 
-// Whether the call that failed is to be tried again. Where the descriptor is not ready, that is after a millisecond: there is no call that waits
-// for it.
-fn again(rt: &impl Clock, error: io::Error) -> bool {
+// Waits where the call that failed is to be tried again, and hands back the error where it is not. Where the descriptor is not ready, the wait is a
+// millisecond: there is no call that waits for it.
+fn wait(rt: &impl Clock, error: io::Error) -> io::Result<()> {
     match error.kind() {
         ErrorKind::WouldBlock => {
             thread::sleep(rt, Duration::from_millis(1));
-            true
+            Ok(())
         }
-        ErrorKind::Interrupted => true,
-        _ => false,
+        ErrorKind::Interrupted => Ok(()),
+        _ => Err(error),
     }
+}
+
+// The error of tries that were counted to their end, a number that no run uses up.
+fn tired() -> io::Error {
+    io::Error::from(ErrorKind::Interrupted)
 }
 
 // ---- standard input
 
-// How many bytes were read, or why a read failed.
-#[derive(Clone, Copy)]
-pub enum Input {
-    Bytes(usize),
-    Failed(io::Error),
-}
-
-// Reads some bytes to the start of buf, or none at the end of the input. The tries are counted, up to a number that no run uses up.
-pub fn read(rt: &(impl io::Input + Clock), buf: &mut [u8]) -> Input
-    ensures prefix_len { IsPrefixLen (bytes_of result) buf.new }
-    ensures within { bytes_of result ≤ length buf.old }
+// Reads some bytes to the start of buf, or none at the end of the input.
+pub fn read(rt: &(impl io::Input + Clock), buf: &mut [u8]) -> io::Result<usize>
+    ensures prefix_len { IfOk result (λ n. IsPrefixLen n buf.new) }
+    ensures within { IfOk result (λ n. n ≤ length buf.old) }
 {
     for _ in 0..u64::MAX {
-        let got = rt.reader().read(buf);
-        match got {
-            Ok(n) => return Input::Bytes(n),
-            Err(error) => {
-                if !again(rt, error) {
-                    return Input::Failed(error);
-                }
-            }
+        match rt.reader().read(buf) {
+            Ok(n) => return Ok(n),
+            Err(error) => wait(rt, error)?,
         }
     }
-    Input::Failed(io::Error::from(ErrorKind::Interrupted))
-}
-
-// Reads some bytes to the last `left` of buf, from the first of them on.
-fn read_to_last(rt: &(impl io::Input + Clock), buf: &mut [u8], left: usize) -> Input
-    requires { left ≤ length buf.old }
-    ensures { bytes_of result ≤ left }
-{
-    let at = buf.len() - left;
-    read(rt, &mut buf[at..])
+    Err(tired())
 }
 
 // Reads to the start of buf until the input ends or buf is full.
-pub fn read_all(rt: &(impl io::Input + Clock), buf: &mut [u8]) -> Input
-    ensures { IsPrefixLen (bytes_of result) buf.new }
+pub fn read_all(rt: &(impl io::Input + Clock), buf: &mut [u8]) -> io::Result<usize>
+    ensures { IfOk result (λ n. IsPrefixLen n buf.new) }
 {
-    let mut left = buf.len();
-    while left > 0 {
-        let r = read_to_last(rt, buf, left);
-        let Input::Bytes(n) = r else {
-            return r;
-        };
-        if n == 0 {
-            return Input::Bytes(buf.len() - left);
+    let mut at = 0;
+    while at < buf.len() {
+        match read(rt, &mut buf[at..])? {
+            0 => break,
+            n => at += n,
         }
-        left -= n;
     }
-    Input::Bytes(buf.len())
+    Ok(at)
 }
 
 // ---- standard output
 
-// Writes some bytes from the start of text, and answers how many; or why a write failed.
-fn write(rt: &(impl Print + Clock), text: &[u8]) -> io::Result<usize>
-    ensures { IfOk result (λ n. IsPrefixLen n text.now) }
-{
-    for _ in 0..u64::MAX {
-        let put = rt.write_some(text);
-        match put {
-            Ok(n) => return Ok(n),
-            Err(error) => {
-                if !again(rt, error) {
-                    return Err(error);
-                }
+// Standard output as a writer.
+#[derive(Drop)]
+pub struct Output<'a, R>(pub &'a R);
+
+impl<R: Print + Clock> Write for Output<'_, R> {
+    fn write(&mut self, text: &[u8]) -> io::Result<usize> {
+        for _ in 0..u64::MAX {
+            match self.0.write_some(text) {
+                Ok(n) => return Ok(n),
+                Err(error) => wait(self.0, error)?,
             }
         }
+        Err(tired())
     }
-    Err(io::Error::from(ErrorKind::Interrupted))
-}
 
-// Writes all of text.
-fn write_all(rt: &(impl Print + Clock), text: &[u8]) -> io::Result<()> {
-    let mut done = 0;
-    while done < text.len() {
-        let n = write(rt, &text[done..])?;
-        if n == 0 {
-            return Err(io::Error::from(ErrorKind::WriteZero));
-        }
-        done += n;
+    fn flush(&mut self) -> io::Result<()> {
+        Ok(())
     }
-    Ok(())
+
+    // As std's, but that its error is what the system would say of the kind.
+    fn write_all(&mut self, text: &[u8]) -> io::Result<()> {
+        let mut rest = text;
+        while !rest.is_empty() {
+            match self.write(rest)? {
+                0 => return Err(io::Error::from(ErrorKind::WriteZero)),
+                n => rest = &rest[n..],
+            }
+        }
+        Ok(())
+    }
 }
 
 // ---- standard error
 
-// What the system says of the error, without its number.
+// Which stream failed, and why.
 #[derive(Clone, Copy)]
-struct Reason(io::Error);
+pub enum Failure {
+    Input(io::Error),
+    Output(io::Error),
+}
 
-impl fmt::Display for Reason {
+// What the system says of the error, without its number.
+impl fmt::Display for Failure {
     fn fmt<W: fmt::Write>(&self, f: &mut fmt::Formatter<W>) -> fmt::Result {
+        let (stream, error) = match self {
+            Failure::Input(error) => ("standard input", error),
+            Failure::Output(error) => ("standard output", error),
+        };
         let mut said = Cursor::new([0u8; 256]);
-        let _ = write!(said, "{}", self.0);
+        let _ = write!(said, "{error}");
         let n = (said.position() as usize).min(256);
         let all = said.into_inner();
-        let text = str::from_utf8(&all[..n]).unwrap_or("");
-        match text.split_once(" (os error ") {
-            Some((reason, _)) => f.write_str(reason),
-            None => f.write_str(text),
-        }
+        let text = words(&all[..n]);
+        let reason = text
+            .split_once(" (os error ")
+            .map_or(text, |(reason, _)| reason);
+        write!(f, "{stream}: {reason}")
     }
 }
 
-// Standard error takes text. Bytes that are none are left out.
+// The text that standard error takes. Bytes that are none are left out.
 fn words(bytes: &[u8]) -> &str {
     str::from_utf8(bytes).unwrap_or("")
 }
 
-// The line for a stream that failed, behind the program's name. Where standard error cannot be written either, there is nobody to tell.
-fn put_failure(rt: &impl Eprint, program: &[u8], stream: &str, error: io::Error) {
-    let _ = eprintln!(rt; "{}: {stream}: {}", words(program), Reason(error));
-}
-
-// The line for a read that failed, after the program's name.
-pub fn cannot_read(rt: &impl Eprint, program: &[u8], error: io::Error) {
-    put_failure(rt, program, "standard input", error);
-}
-
-// Whether all of text could be written; where not, a line says so, but where the reader of a pipe is gone: that is no failure of the program's.
-pub fn print(rt: &(impl Print + Eprint + Clock), program: &[u8], text: &[u8]) -> bool {
-    match write_all(rt, text) {
-        Ok(()) => true,
-        Err(error) => {
-            if error.kind() != ErrorKind::BrokenPipe {
-                put_failure(rt, program, "standard output", error);
-            }
-            false
+// The line for a stream that failed, behind the program's name. Where the reader of a pipe is gone, that is no failure of the program's. Where
+// standard error cannot be written either, there is nobody to tell.
+pub fn tell(rt: &impl Eprint, program: &[u8], done: Result<(), Failure>) {
+    match done {
+        Ok(()) => {}
+        Err(Failure::Output(error)) if error.kind() == ErrorKind::BrokenPipe => {}
+        Err(failure) => {
+            let _ = eprintln!(rt; "{}: {failure}", words(program));
         }
     }
 }
@@ -171,20 +147,10 @@ pub fn has_arg(rt: &impl Env, i: usize) -> bool {
     !matches!(rt.arg(i, &mut []), Err(FillError::NotPresent))
 }
 
-// Whether the word is these letters.
-pub fn same_word(word: &[u8], letters: &[u8]) -> bool
-    ensures { result ≡ (eqb (length word.now) (length letters.now) && starts_with letters.now word.now) }
-{
-    if word.len() == letters.len() {
-        return starts_with(word, letters);
-    }
-    false
-}
-
 fn is_help(rt: &impl Env) -> bool {
     let mut word = [0u8; 8];
     match rt.arg(1, &mut word) {
-        Ok(n) => !has_arg(rt, 2) && same_word(&word[..n], b"--help"),
+        Ok(n) => !has_arg(rt, 2) && matches!(&word[..n], b"--help"),
         Err(_) => false,
     }
 }
@@ -192,7 +158,8 @@ fn is_help(rt: &impl Env) -> bool {
 // How the program is called: to standard output where its one argument is `--help`, and to standard error where its arguments are wrong.
 pub fn put_usage(rt: &(impl Env + Print + Eprint + Clock), program: &[u8], usage: &[u8]) {
     if is_help(rt) {
-        print(rt, program, usage);
+        let done = Output(rt).write_all(usage);
+        tell(rt, program, done.map_err(Failure::Output));
         return;
     }
     let _ = eprint!(rt; "{}", words(usage));

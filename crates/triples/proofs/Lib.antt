@@ -1,2 +1,2 @@
-pub mod NumberLaws
+pub mod OrderLaws
 pub mod TripleBytes

@@ -1,43 +1,21 @@
--- Triples compared, and in lent bytes: a law for each of the code's ways.
+-- Triples in lent bytes: a law for each of the code's ways.
 -- Assumes nothing.
 use Prim.Native.Nat.{ℕ, ◌+◌, ◌≤◌}
 use mathlib.Core.Path.{◌≡◌, sym, ap, ap₂, ◌∙◌}
-use mathlib.Core.Bool.{Bool, ◌&&◌}
 use mathlib.Core.List.{List}
 use native.Mathlib.Omega.{arith}
 use lib.ListN.{length, take, drop}
 use lib.Seq.{drop-drop}
-use Rattle.rules.specs.Syntax as S
-use Rattle.rules.specs.Precedence.{◌or_else◌, compare_numbers}
-use Rattle.rules.specs.Admission.{holds}
-use Rattle.precedence.specs.Views.{order_of}
-use Rattle.precedence.specs.declared.Order.{Order}
 use Rattle.rows.specs.Put.{Put}
 use Rattle.rows.proofs.Puts.{put_then, put_same}
 use Rattle.shelf_rules.specs.Table.{low_first, number_in}
 use Rattle.shelf_rules.specs.Triples as T
-use Rattle.shelf_rules.specs.Triples.{triple, compare_triples, at_most, encloses}
+use Rattle.shelf_rules.specs.Triples.{triple}
 use Rattle.shelf_rules.specs.Shelf.{triple_row, kept_row, triple_in, bounds_in}
 use Rattle.shelf_rules.proofs.TableLaws.{low-length}
 use Rattle.shelf_rules.proofs.KeptLaws.{triple-length}
-use Rattle.triples.specs.Views.{triple_is, bounds_is}
+use Rattle.triples.specs.Views.{triple_is}
 use Rattle.triples.specs.declared.Triple.{Triple}
-use Rattle.triples.specs.declared.Bounds.{Bounds}
-
--- ---- at_most, encloses
-
-pub most-is : (t u : Triple) (r : Bool) (o : Order)
-    → order_of o ≡ (compare_numbers t.major u.major or_else compare_numbers t.minor u.minor or_else compare_numbers t.patch u.patch)
-    → r ≡ holds S.lte (order_of o) → r ≡ at_most (triple_is t) (triple_is u)
-unfolding at_most compare_triples
-most-is t u r o e f = f ∙ ap (holds S.lte) e
-
-pub enclosed-is : (b : Bounds) (t : Triple) (x y : Bool) → x ≡ at_most (triple_is b.low) (triple_is t) → y ≡ at_most (triple_is t) (triple_is b.high)
-    → (x && y) ≡ encloses (bounds_is b) (triple_is t)
-unfolding encloses
-enclosed-is b t x y e f = ap₂ ◌&&◌ e f
-
-pub ruleset comparisons = (most-is, enclosed-is)
 
 -- ---- triple_at, bounds_at
 
@@ -45,16 +23,14 @@ module _ (l : List ℕ) (at : ℕ) where
   number_behind : (i x : ℕ) → x ≡ number_in (take 8 (drop (at + i) l)) → x ≡ number_in (take 8 (drop i (drop at l)))
   number_behind i x e = e ∙ ap (λ k. number_in (take 8 k)) (sym (drop-drop i at l))
 
-  pub triple-is : (a b c : ℕ) → a ≡ number_in (take 8 (drop at l)) → b ≡ number_in (take 8 (drop (at + 8) l)) → c ≡ number_in (take 8 (drop (at + 16) l))
+  pub triple_read : (a b c : ℕ) → a ≡ number_in (take 8 (drop at l)) → b ≡ number_in (take 8 (drop (at + 8) l)) → c ≡ number_in (take 8 (drop (at + 16) l))
       → triple a b c ≡ triple_in (drop at l)
-  triple-is a b c e f g =
+  triple_read a b c e f g =
       ap₂ (λ a b. triple a b c) e (number_behind 8 b f) ∙ ap (triple (number_in (take 8 (drop at l))) (number_in (take 8 (drop 8 (drop at l))))) (number_behind 16 c g)
 
-  pub bounds-is : (t u : Triple) → triple_is t ≡ triple_in (drop at l) → triple_is u ≡ triple_in (drop (at + 24) l)
+  pub bounds_read : (t u : Triple) → triple_is t ≡ triple_in (drop at l) → triple_is u ≡ triple_in (drop (at + 24) l)
       → ◌≡◌ {A = T.Bounds} (record { low = triple_is t; high = triple_is u }) (bounds_in (drop at l))
-  bounds-is t u e f = ap₂ (λ t u. record { low = t; high = u }) e (f ∙ ap triple_in (sym (drop-drop 24 at l)))
-
-pub ruleset readings = (triple-is, bounds-is)
+  bounds_read t u e f = ap₂ (λ t u. record { low = t; high = u }) e (f ∙ ap triple_in (sym (drop-drop 24 at l)))
 
 -- ---- put_triple, put_bounds
 

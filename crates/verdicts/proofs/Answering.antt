@@ -10,35 +10,33 @@ use Rattle.rules.specs.NormalText.{decimal, decimal_to}
 use Rattle.rules.specs.Plainform.{spell_refusal}
 use Rattle.rules.specs.Admits.{spell_verdict}
 use Rattle.rows.specs.Put.{Put}
-use Rattle.rangeset.specs.Views.{number_of}
-use Rattle.rangeset.specs.declared.Refusal.{Refusal}
-use Rattle.rangeset.specs.declared.Refusal.TheVariants as R
-use Rattle.admission.specs.Views.{answer_of}
-use Rattle.admission.specs.declared.Admission.{Admission}
-use Rattle.admission.specs.declared.Admission.TheVariants as A
+use Rattle.std.specs.Prelude.{Bool, true, false, Result, Ok, Err}
+use Rattle.refusals.specs.Views.{number_of, answer_of}
+use Rattle.refusals.specs.declared.Refusal.{Refusal}
+use Rattle.refusals.specs.declared.Refusal.TheVariants as R
 
 -- ---- put_answer
 
-module _ (a : Admission) where
-  module _ (e : a ≡ A.Yes) where
+module _ (a : Result Bool Refusal) where
+  module _ (b : Bool) (f : b ≡ true) (e : a ≡ Ok b) where
     pub yes-room : (n at : ℕ) → at + length (spell_verdict (answer_of a)) ≤ n → at + 3 ≤ n
     unfolding spell_verdict
-    yes-room n at h = rw e at h
+    yes-room n at h = rw (e, f) at h
 
     pub yes-put : (l k : List ℕ) (at n : ℕ) → Put l at (bytes "yes") k n → Put l at (spell_verdict (answer_of a)) k n
     unfolding spell_verdict
-    yes-put l k at n p = rw e p
+    yes-put l k at n p = rw (e, f) p
 
-  module _ (e : a ≡ A.No) where
+  module _ (b : Bool) (f : b ≡ false) (e : a ≡ Ok b) where
     pub no_room : (n at : ℕ) → at + length (spell_verdict (answer_of a)) ≤ n → at + 2 ≤ n
     unfolding spell_verdict
-    no_room n at h = rw e at h
+    no_room n at h = rw (e, f) at h
 
     pub no-put : (l k : List ℕ) (at n : ℕ) → Put l at (bytes "no") k n → Put l at (spell_verdict (answer_of a)) k n
     unfolding spell_verdict
-    no-put l k at n p = rw e p
+    no-put l k at n p = rw (e, f) p
 
-  module _ (x : Refusal) (e : a ≡ A.Refused x) (n : ℕ) (f : n ≡ number_of x) where
+  module _ (x : Refusal) (e : a ≡ Err x) (n : ℕ) (f : n ≡ number_of x) where
     pub refused-room : (l : List ℕ) (at : ℕ) → at + length (spell_verdict (answer_of a)) ≤ length l → at + length (spell_refusal n) ≤ length l
     unfolding spell_verdict
     refused-room l at h = subst (λ k. at + length (spell_refusal k) ≤ length l) (sym f) (rw e at h)
@@ -67,8 +65,8 @@ refusal-short R.NotShelf = omega arith
 refusal-short R.Full = omega arith
 refusal-short R.Code = omega arith
 
-pub answer-short : (a : Admission) → length (spell_verdict (answer_of a)) ≤ 10
+pub answer-short : (a : Result Bool Refusal) → length (spell_verdict (answer_of a)) ≤ 10
 unfolding spell_verdict
-answer-short A.Yes = omega arith
-answer-short A.No = omega arith
-answer-short (A.Refused x) = refusal-short x
+answer-short (Ok true) = omega arith
+answer-short (Ok false) = omega arith
+answer-short (Err x) = refusal-short x

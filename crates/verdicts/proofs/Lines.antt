@@ -15,8 +15,9 @@ use Rattle.rules.specs.Admission.{admission_call}
 use Rattle.rules.specs.Admits.{spell_verdict, verdict_line, answer_line, verdict_room}
 use Rattle.rows.specs.Put.{Put}
 use Rattle.rows.proofs.Puts.{put_then, put_same}
-use Rattle.admission.specs.Views.{answer_of}
-use Rattle.admission.specs.declared.Admission.{Admission}
+use Rattle.std.specs.Prelude.{Bool, Result}
+use Rattle.refusals.specs.declared.Refusal.{Refusal}
+use Rattle.refusals.specs.Views.{answer_of}
 use Rattle.verdicts.proofs.Answering.{answer-short}
 
 line-length : (s : List ℕ) (a : Answer Bool) → length (verdict_line s a) ≡ length s + (1 + (length (spell_verdict a) + 1))
@@ -25,7 +26,7 @@ line-length s a = simp length-append (omega arith)
 
 -- ---- put_line
 
-module _ (s l : List ℕ) (a : Admission) (h : length (verdict_line s (answer_of a)) ≤ length l) where
+module _ (s l : List ℕ) (a : Result Bool Refusal) (h : length (verdict_line s (answer_of a)) ≤ length l) where
   pub version-room : 0 + length s ≤ length l
   version-room = omega (arith, line-length s (answer_of a))
 
@@ -58,7 +59,7 @@ module _ (s l : List ℕ) where
     pub long-within : verdict_room ≤ length l → k ≤ length y
     long-within r = omega (arith, put_same p, p.place)
 
-  module _ (a : Admission) (h : length s ≤ longest) where
+  module _ (a : Result Bool Refusal) (h : length s ≤ longest) where
     pub short-room : verdict_room ≤ length l → length (verdict_line s (answer_of a)) ≤ length l
     short-room r = omega (arith, line-length s (answer_of a), answer-short a)
 

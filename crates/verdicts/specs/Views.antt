@@ -1,9 +1,8 @@
--- What is known of a range by the length of its line.
+-- How much is put for a range.
 -- Assumes nothing.
-use Rattle.std.specs.Prelude.{ℕ, ◌≡◌, List}
-use Rattle.rules.specs.Expansion.{Compat}
-use Rattle.passes.specs.Views.{Accepts}
+use Rattle.std.specs.Prelude.{ℕ, Result, Ok, Err}
 
--- A range for which no line is put is not refused.
-pub record UnlessLine (m : Compat) (s : List ℕ) (len : ℕ) : Type 0 where
-  pub accepts : len ≡ 0 → Accepts m s
+-- no byte where the range is read
+abbrev pub length_put : {A : Type 0} → Result A ℕ → ℕ
+length_put (Ok a) = 0
+length_put (Err len) = len

@@ -2,19 +2,18 @@
 // writer writes from the byte `at` on, or from the start, and answers the place behind what it wrote.
 #![tactic(auto)]
 
-ghost use Rattle.std.specs.Prelude.{◌+◌, ◌-◌, ◌≤◌, length, take};
+ghost use Rattle.std.specs.Prelude.{◌≡◌, ◌+◌, ◌-◌, ◌<◌, ◌≤◌, length, take, MatchResult};
 ghost use Rattle.rules.specs.Admits.{spell_verdict, verdict_line, answer_line, refused_range, verdict_room};
 ghost use Rattle.range.specs.Views.{compat_of};
 ghost use Rattle.rows.specs.Put.{Put};
-ghost use Rattle.passes.specs.Views.{Accepts};
-ghost use Rattle.admission.specs.Views.{answer_of};
-ghost use Rattle.verdicts.specs.Views.{UnlessLine};
+ghost use Rattle.refusals.specs.Views.{answer_of};
+ghost use Rattle.verdicts.specs.Views.{length_put};
 
-use admission::{Admission, admit_version};
+use admission::admit_version;
 use range::Compat;
-use rangeset::{Reading, count};
+use rangeset::RangeSet;
+use refusals::Refusal;
 use spelling::{put_bytes, put_refused};
-use walk::{Stage, next};
 
 // How many bytes are enough for every line: `verdict_room` of the rules.
 pub const ROOM: usize = 65567;
@@ -22,19 +21,20 @@ pub const ROOM: usize = 65567;
 // ---- the line for a version
 
 // The answer in letters.
-fn put_answer(out: &mut [u8], at: usize, answer: Admission) -> usize
+fn put_answer(out: &mut [u8], at: usize, answer: Result<bool, Refusal>) -> usize
     requires { at + length (spell_verdict (answer_of answer)) ≤ length out.old }
     ensures { Put out.old at (spell_verdict (answer_of answer)) out.new result }
 {
     match answer {
-        Admission::Yes => put_bytes(out, at, b"yes"),
-        Admission::No => put_bytes(out, at, b"no"),
-        Admission::Refused(refusal) => put_refused(out, at, refusal.number()),
+        Ok(true) => put_bytes(out, at, b"yes"),
+        Ok(false) => put_bytes(out, at, b"no"),
+        Err(refusal) => put_refused(out, at, u64::from(refusal)),
     }
 }
 
 // The line, a blank, the answer and a 0A.
-fn put_line(line: &[u8], answer: Admission, out: &mut [u8]) -> usize
+#[tactic(auto, using(crate::proofs::Lines::lines))]
+fn put_line(line: &[u8], answer: Result<bool, Refusal>, out: &mut [u8]) -> usize
     requires { length (verdict_line line.now (answer_of answer)) ≤ length out.old }
     ensures { Put out.old 0 (verdict_line line.now (answer_of answer)) out.new result }
 {
@@ -44,36 +44,40 @@ fn put_line(line: &[u8], answer: Admission, out: &mut [u8]) -> usize
     put_bytes(out, end, b"\n")
 }
 
-// Whether the range, which is not refused, admits the version on the line, as a line.
-pub fn put_verdict(range: &[u8], compat: Compat, line: &[u8], out: &mut [u8]) -> usize
-    requires accepts { Accepts (compat_of compat) range.now }
-    requires verdict_room_in_bounds { verdict_room ≤ length out.old }
-    ensures put { Put out.old 0 (answer_line (compat_of compat) range.now line.now) out.new result }
+// Whether the range admits the version on the line, as a line.
+#[tactic(auto, using(crate::proofs::Lines::verdicts))]
+pub fn put_verdict(set: &RangeSet<'_>, line: &[u8], out: &mut [u8]) -> usize
+    requires { verdict_room ≤ length out.old }
+    ensures put { Put out.old 0 (answer_line (compat_of set.now.compat) set.now.text.now line.now) out.new result }
     ensures within { result ≤ length out.new }
 {
     if line.len() > 65535 {
         return put_bytes(out, 0, b"refused 8\n");
     }
-    let first = next(range, Stage::Range, compat);
-    let answer = admit_version(range, compat, first, line);
-    put_line(line, answer, out)
+    put_line(line, admit_version(set, line), out)
 }
 
 // ---- the line for the range
 
-// The range's refusal, as a line; nothing where it is not refused.
-pub fn put_refused_range(range: &[u8], compat: Compat, out: &mut [u8]) -> usize
+// The range, if it is not refused; else its line is put, of this length.
+#[tactic(auto, using(crate::proofs::Ranges::ranges))]
+pub fn parse_or_put<'a>(
+    range: &'a [u8],
+    compat: Compat,
+    out: &mut [u8],
+) -> Result<RangeSet<'a>, usize>
     requires { verdict_room ≤ length out.old }
-    ensures put { Put out.old 0 (refused_range (compat_of compat) range.now) out.new result }
-    ensures accepts { UnlessLine (compat_of compat) range.now result }
-    ensures within { result ≤ length out.new }
+    ensures put { Put out.old 0 (refused_range (compat_of compat) range.now) out.new (length_put result) }
+    ensures of { MatchResult result (λ set. (set.text ≡ range.entry) × (set.compat ≡ compat)) (λ len. 0 < len) }
+    ensures within { length_put result ≤ length out.new }
 {
-    let r = count(range, compat);
-    let Reading::Refused(refusal) = r else {
-        return 0;
-    };
-    let end = put_refused(out, 0, refusal.number());
-    put_bytes(out, end, b"\n")
+    match RangeSet::parse(range, compat) {
+        Ok(set) => Ok(set),
+        Err(refusal) => {
+            let end = put_refused(out, 0, u64::from(refusal));
+            Err(put_bytes(out, end, b"\n"))
+        }
+    }
 }
 
 // ---- a line that comes in parts

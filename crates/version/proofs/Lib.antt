@@ -1,4 +1,4 @@
-pub mod IdentifierLaws
-pub mod NumberLaws
-pub mod TailLaws
+pub mod Words
+pub mod Parts
+pub mod Tails
 pub mod VersionLaws

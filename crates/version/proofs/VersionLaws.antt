@@ -1,30 +1,24 @@
--- `read_version`: a law for each of its ways; and what a caller may know of a version that was read.
+-- `read_version`: a law for each of its ways; and what its answer says of the text.
 -- Assumes nothing.
-use Prim.Native.Nat.{ℕ, suc, ◌-◌, ◌<◌, ◌≤◌}
-use mathlib.Core.Path.{◌≡◌, refl, sym, ap, ◌∙◌}
-use mathlib.Core.List.{List, [], ◌∷◌}
-use mathlib.Core.Bool.{Bool, true, false, not, ◌&&◌}
-use native.Mathlib.Omega.{arith}
-use borrow.Author.Tests.{leb-true, le-leb, lt-leb}
-use lib.Dec.{leb, eqb}
-use lib.ListN.{length, drop}
-use Rattle.rules.specs.Bytes.{bytes, pick, value, largest}
+use Rattle.std.proofs.Common.{ℕ, ◌≡◌, ◌<◌, ◌≤◌, Bool, true, false, ◌&&◌, List, [], length, refl, sym, ap, ◌∙◌, Option, Some, None}
+use borrow.Author.Tests.{le-leb, lt-leb}
+use Rattle.rules.specs.Bytes.{bytes, pick, value}
 use Rattle.rules.specs.Syntax.{Identifier}
-use Rattle.rules.specs.Parse.{Result, fail, ok, ◌then◌, choose, all, literal, read_number, at_end, left_of}
-use Rattle.rules.specs.Answers.{accepted, refused, unless, fits, longest}
+use Rattle.rules.specs.Parse.{Result, fail, ok, ◌then◌, read_number, at_end}
+use Rattle.rules.specs.Answers.{Answer, accepted, refused, unless, fits, longest}
 use Rattle.rules.specs.Version as R
 use Rattle.rules.specs.Version.{version, read_word, read_version_identifier, read_after_dot, read_series, read_version, version_identifiers_in}
 use Rattle.rules.specs.Admission.{versioned, version_fits, version_of}
-use Rattle.rules.proofs.Results.{Gives, gives, given, gives-map, gives_then}
-use Rattle.rules.proofs.Follows.{both}
-use Rattle.rules.proofs.Left.{Behind, behind-both, behind-drop, behind-left, rest_in, literal-behind, Took, took, failed}
-use Rattle.lexer.proofs.Counting.{Rest}
-use Rattle.partial.specs.Views.{beginning, on_rest}
-use Rattle.version.specs.Views.{read_numbers, numbers_of, read_tail, tail_of, prerelease_from, version_text_of}
-use Rattle.version.specs.declared.Numbers.{Numbers}
-use Rattle.version.specs.declared.Tail.{Tail}
-use Rattle.version.specs.declared.VersionText.TheVariants as T
-use Rattle.version.proofs.NumberLaws.{numbers-behind, numbers-left}
+use Rattle.rules.proofs.VersionAccepted.{Decided, long, underivable, large, accepts, decided}
+use Rattle.lexer.specs.Views.{fitting}
+use Rattle.lexer.specs.declared.Qualifier.{Qualifier}
+use Rattle.version.specs.Views.{read_numbers, numbers_of, read_tail, tail_in, tail_of, numbered, version_is, version_in, version_text_of}
+use Rattle.version.specs.declared.Version.{Version}
+use Rattle.std.specs.Prelude as Std
+use Rattle.std.specs.Prelude.{Ok, Err}
+use Rattle.refusals.specs.declared.Refusal.{Refusal}
+use Rattle.refusals.specs.declared.Refusal.TheVariants.{NoVersion, VersionTooLarge}
+use Rattle.refusals.specs.Views.{number_of}
 
 -- the version of these numbers with these identifiers
 abbrev identified : R.Version → List Identifier → R.Version
@@ -77,198 +71,118 @@ version-is s = major (read_number s)
     major fail = refl
     major (ok a t) = minor (value a) (read_after_dot read_number t)
 
--- all three fit
-fits_all : (a b c : ℕ) → not (fits a && (fits b && fits c)) ≡ false → (fits a ≡ true) × (fits b ≡ true) × (fits c ≡ true)
-fits_all a b c = go (fits a) (fits b) (fits c)
-  where
-    go : (x y z : Bool) → not (x && (y && z)) ≡ false → (x ≡ true) × (y ≡ true) × (z ≡ true)
-    go true true true e = (refl, refl, refl)
-    go true true false e = let z : ◌≡◌ {A = ℕ} 0 1 = cc in absurd (omega arith)
-    go true false z e = let z : ◌≡◌ {A = ℕ} 0 1 = cc in absurd (omega arith)
-    go false y z e = let z : ◌≡◌ {A = ℕ} 0 1 = cc in absurd (omega arith)
-
-not_is : (b : Bool) → not b ≡ true → b ≡ false
-not_is true e = let z : ◌≡◌ {A = ℕ} 0 1 = cc in absurd (omega arith)
-not_is false e = refl
-
-version-eq : (a b c n f a' b' c' n' f' : ℕ) → a ≡ a' → b ≡ b' → c ≡ c' → n ≡ n' → f ≡ f'
-    → T.Version (record { major = a; minor = b; patch = c; count = n; from = f }) ≡ T.Version (record { major = a'; minor = b'; patch = c'; count = n'; from = f' })
-version-eq a b c n f a' b' c' n' f' d e g h i = rw (d, e, g, h, i)
-
--- a sign that identifiers follow
-sign-found : {A : Type 0} (b : ℕ) (f : List ℕ → Result A) (s : List ℕ) (l : List A) (r : List ℕ) → read_series (b ∷ []) f s ≡ ok l r → (length l ≡ 0 → ⊥)
-    → (u : List ℕ) × (literal (b ∷ []) s ≡ ok tt u) × ((f u then λ a v. all (read_after_dot f) v then λ l r. ok (a ∷ l) r) ≡ ok l r)
-unfolding read_series choose
-sign-found {A} b f s l r e z = go (literal (b ∷ []) s) refl e
-  where
-    go : (g : Result (Unit {0})) → literal (b ∷ []) s ≡ g
-        → choose g (λ u t. f t then λ a v. all (read_after_dot f) v then λ l r. ok (a ∷ l) r) (ok [] s) ≡ ok l r
-        → (u : List ℕ) × (literal (b ∷ []) s ≡ ok tt u) × ((f u then λ a v. all (read_after_dot f) v then λ l r. ok (a ∷ l) r) ≡ ok l r)
-    go fail q e = let y : [] ≡ l = cc in absurd (z (ap length (sym y)))
-    go (ok x u) q e = (u, q, e)
-
-literal-one : (b : ℕ) (s : List ℕ) (x : Unit {0}) (u : List ℕ) → literal (b ∷ []) s ≡ ok x u → length u ≡ length s - 1
-unfolding literal
-literal-one b [] x u e = let z : ◌≡◌ {A = ℕ} 0 1 = cc in absurd (omega arith)
-literal-one b (c ∷ s) x u e = go (eqb c b) e
-  where
-    go : (y : Bool) → pick y (ok (tt {0}) s) fail ≡ ok x u → length u ≡ suc (length s) - 1
-    go true e = let z : s ≡ u = cc in omega (arith, ap length z)
-    go false e = let z : ◌≡◌ {A = ℕ} 0 1 = cc in absurd (omega arith)
-
--- the prerelease identifiers of what follows the numbers begin behind a sign
-module _ (t : List ℕ) (is : List Identifier) (e : List ℕ) (q : read_tail t ≡ ok is e) where
-  tail-series : (r : List ℕ) × (read_series (bytes "-") read_version_identifier t ≡ ok is r)
-  unfolding read_tail ◌then◌
-  tail-series = go (read_series (bytes "-") read_version_identifier t) refl q
-    where
-      ends : (js : List Identifier) (g : Result (Unit {0})) → (g then λ u e. ok js e) ≡ ok is e → js ≡ is
-      ends js fail x = let y : ◌≡◌ {A = ℕ} 0 1 = cc in absurd (omega arith)
-      ends js (ok u r) x = cc
-
-      behind : (js : List Identifier) (g : Result (List (List ℕ))) → (g then λ build r. at_end r then λ u e. ok js e) ≡ ok is e → js ≡ is
-      behind js fail x = let y : ◌≡◌ {A = ℕ} 0 1 = cc in absurd (omega arith)
-      behind js (ok l r) x = ends js (at_end r) x
-
-      go : (g : Result (List Identifier)) → read_series (bytes "-") read_version_identifier t ≡ g
-          → (g then λ is w. read_series (bytes "+") read_word w then λ build r. at_end r then λ u e. ok is e) ≡ ok is e → (r : List ℕ) × (read_series (bytes "-") read_version_identifier t ≡ ok is r)
-      go fail x q = let y : ◌≡◌ {A = ℕ} 0 1 = cc in absurd (omega arith)
-      go (ok js w) x q = (w, x ∙ ap (λ l. ok l w) (behind js (read_series (bytes "+") read_word w) q))
-
-  tail-sign : (length is ≡ 0 → ⊥)
-      → (u : List ℕ) × (literal (bytes "-") t ≡ ok tt u) × (r : List ℕ) × ((read_version_identifier u then λ i v. all (read_after_dot read_version_identifier) v then λ l r. ok (i ∷ l) r) ≡ ok is r)
-  tail-sign z = let (r, x) = tail-series in let (u, y, w) = sign-found 45 read_version_identifier t is r x z in (u, y, r, w)
-
--- where the code says that they begin is where they begin
-from_is : (s : List ℕ) (x : R.Version) (v : List ℕ) (is : List Identifier) (e : List ℕ) → read_numbers s ≡ ok x v → read_tail v ≡ ok is e
-    → beginning is (length v - 1) ≡ beginning is (prerelease_from s)
-unfolding ◌then◌
-from_is s x v [] e q k = refl
-from_is s x v (i ∷ is) e q k = let (u, y, r, w) = tail-sign v (i ∷ is) e k (λ z. omega arith) in rw (q, y) (sym (literal-one 45 v tt u y))
-
-pub version-long : (s : List ℕ) → 65535 < length s → T.NoVersion ≡ version_text_of s (version_of s)
+pub version_long : (s : List ℕ) → 65535 < length s → Err NoVersion ≡ version_text_of (version_of s)
 unfolding version_of version_text_of
-version-long s h = rw (lt-leb (length s) longest h)
+version_long s h = rw (lt-leb (length s) longest h)
 
-module _ (s : List ℕ) (h : length s ≤ 65535) (n : Numbers) (p : n ≡ numbers_of s (read_numbers s)) where
+-- what the code answers of numbers, where each fits that is known
+abbrev text : Option Version → Std.Result (R.Version × ℕ) Refusal
+text None = Err VersionTooLarge
+text (Some x) = version_in (Ok x)
+
+module _ (i j k : ℕ) (q : Qualifier) (is : List Identifier) (n : q.count ≡ length is) (e : version_identifiers_in q.identifiers.now ≡ is) where
+  fit : (a b c : Option ℕ) → a ≡ fitting i → b ≡ fitting j → c ≡ fitting k
+      → text (numbered a b c q) ≡ version_text_of (pick (version_fits (version i j k is)) (accepted (version i j k is)) (refused 9))
+  unfolding version_text_of version_fits
+  fit a b c x y z = rw (x, y, z) (go (fits i) (fits j) (fits k))
+    where
+      go : (x y z : Bool) → text (numbered (pick x (Some i) None) (pick y (Some j) None) (pick z (Some k) None) q)
+          ≡ version_text_of (pick (x && (y && z)) (accepted (version i j k is)) (refused 9))
+      go true true true = rw (n, e)
+      go true true false = refl
+      go true false z = refl
+      go false y z = refl
+
+module _ (s : List ℕ) (h : length s ≤ 65535) where
   answer-is : (g : Result R.Version) → read_numbers s ≡ g → version_of s ≡ unless 9 version_fits (versioned (g then λ n t. finish n t))
   unfolding version_of
   answer-is g e = rw (le-leb (length s) longest h, version-is s, e)
 
-  left_is : n.left ≡ left_of s (read_numbers s)
-  left_is = ap (λ x. x.left) p ∙ numbers-left s (read_numbers s)
-
-  pub version-unnumbered : n.left ≡ length s → T.NoVersion ≡ version_text_of s (version_of s)
+  pub version_unnumbered : fail ≡ numbers_of (read_numbers s) → Err NoVersion ≡ version_text_of (version_of s)
   unfolding version_text_of versioned ◌then◌
-  version-unnumbered z = rw (answer-is fail (failed (numbers-behind s) n.left left_is z))
+  version_unnumbered e = go (read_numbers s) refl e
+    where
+      go : (g : Result R.Version) → read_numbers s ≡ g → fail ≡ numbers_of g → Err NoVersion ≡ version_text_of (version_of s)
+      go fail q e = rw (answer-is fail q)
+      go (ok (version a b c is) r) q e = cc
 
-  module _ (z : n.left ≡ length s → ⊥) (t : Tail) (q : t ≡ tail_of (Rest s n.left) (read_tail (Rest s n.left))) where
-    abbrev v : List ℕ
-    v = drop (length s - n.left) s
+  -- the numbers of the rules
+  module _ (a b c : Option ℕ) (v : List ℕ) (e : ok (a, b, c) v ≡ numbers_of (read_numbers s)) where
+    record Numbered : Type 0 where
+      major : ℕ
+      minor : ℕ
+      patch : ℕ
+      others : List Identifier
+      is : read_numbers s ≡ ok (version major minor patch others) v
+      major_is : a ≡ fitting major
+      minor_is : b ≡ fitting minor
+      patch_is : c ≡ fitting patch
 
-    tail_of_lem : t ≡ tail_of v (read_tail v)
-    tail_of_lem = rw (rest_in s (length s - n.left)) at q
-
-    numbers-took : Took s (read_numbers s) n.left
-    numbers-took = took (numbers-behind s) n.left left_is z
-
-    pub version-broken : t.whole ≡ false → T.NoVersion ≡ version_text_of s (version_of s)
-    unfolding version_text_of versioned tail_of ◌then◌
-    version-broken e = go numbers-took.answer numbers-took.is (read_tail v) refl tail_of_lem
+    numbered_is : Numbered
+    numbered_is = go (read_numbers s) refl e
       where
-        go : (x : R.Version) → read_numbers s ≡ ok x v → (y : Result (List Identifier)) → read_tail v ≡ y → t ≡ tail_of v y → T.NoVersion ≡ version_text_of s (version_of s)
-        go x i fail f k = rw (answer-is (ok x v) i, f)
-        go x i (ok is r) f k = let y : true ≡ false = sym (ap (λ z. z.whole) k) ∙ e in let w : ◌≡◌ {A = ℕ} 0 1 = cc in absurd (omega arith)
+        go : (g : Result R.Version) → read_numbers s ≡ g → ok (a, b, c) v ≡ numbers_of g → Numbered
+        go fail q e = cc
+        go (ok (version i j l is) r) q e =
+            let z : r ≡ v = cc in
+            let x : ◌≡◌ {A = Option ℕ × Option ℕ × Option ℕ} (a, b, c) (fitting i, fitting j, fitting l) = cc in
+            record {
+              major = i;
+              minor = j;
+              patch = l;
+              others = is;
+              is = rw z at q;
+              major_is = ap (λ y. y.0) x;
+              minor_is = ap (λ y. y.1) x;
+              patch_is = ap (λ y. y.2) x;
+            }
 
-    module _ (e : t.whole ≡ true) where
-      pub version-large : n.large ≡ true → T.TooLarge ≡ version_text_of s (version_of s)
-      unfolding version_text_of versioned version_fits tail_of numbers_of ◌then◌
-      version-large l = go numbers-took.answer numbers-took.is (read_tail v) refl tail_of_lem
+    pub version_broken : None ≡ tail_of (read_tail v) → Err NoVersion ≡ version_text_of (version_of s)
+    unfolding version_text_of versioned ◌then◌
+    version_broken k = rw (answer-is _ numbered_is.is) (go (read_tail v) k)
+      where
+        go : (y : Result (List Identifier)) → None ≡ tail_of y
+            → Err NoVersion ≡ version_text_of (unless 9 version_fits (versioned (y then λ is e. ok (version numbered_is.major numbered_is.minor numbered_is.patch is) e)))
+        go fail k = refl
+        go (ok is r) k = cc
+
+    module _ (q : Qualifier) (k : tail_in (Some q) ≡ tail_of (read_tail v)) where
+      read : text (numbered a b c q) ≡ version_text_of (version_of s)
+      unfolding versioned ◌then◌
+      read = rw (answer-is _ numbered_is.is) (go (read_tail v) k)
         where
-          go : (x : R.Version) → read_numbers s ≡ ok x v → (y : Result (List Identifier)) → read_tail v ≡ y → t ≡ tail_of v y → T.TooLarge ≡ version_text_of s (version_of s)
-          go x i fail f k = let y : false ≡ true = sym (ap (λ z. z.whole) k) ∙ e in let w : ◌≡◌ {A = ℕ} 0 1 = cc in absurd (omega arith)
-          go (version a b c js) i (ok is r) f k =
-              let m : n.large ≡ not (fits a && (fits b && fits c)) = ap (λ x. x.large) (p ∙ ap (numbers_of s) i) in
-              rw (answer-is (ok (version a b c js) v) i, f, not_is (fits a && (fits b && fits c)) (sym m ∙ l))
+          go : (y : Result (List Identifier)) → tail_in (Some q) ≡ tail_of y
+              → text (numbered a b c q) ≡ version_text_of (unless 9 version_fits (versioned (y then λ is e. ok (version numbered_is.major numbered_is.minor numbered_is.patch is) e)))
+          go fail k = cc
+          go (ok is r) k =
+              let p : ◌≡◌ {A = ℕ × List Identifier} (q.count, version_identifiers_in q.identifiers.now) (length is, is) = cc in
+              fit numbered_is.major numbered_is.minor numbered_is.patch q is (ap (λ y. y.0) p) (ap (λ y. y.1) p) a b c numbered_is.major_is numbered_is.minor_is numbered_is.patch_is
 
-      pub version-read : n.large ≡ false
-          → T.Version (record { major = n.major; minor = n.minor; patch = n.patch; count = t.count; from = t.from }) ≡ version_text_of s (version_of s)
-      unfolding version_text_of versioned version_fits tail_of numbers_of ◌then◌
-      version-read l = go numbers-took.answer numbers-took.is (read_tail v) refl tail_of_lem
-        where
-          go : (x : R.Version) → read_numbers s ≡ ok x v → (y : Result (List Identifier)) → read_tail v ≡ y → t ≡ tail_of v y
-              → T.Version (record { major = n.major; minor = n.minor; patch = n.patch; count = t.count; from = t.from }) ≡ version_text_of s (version_of s)
-          go x i fail f k = let y : false ≡ true = sym (ap (λ z. z.whole) k) ∙ e in let w : ◌≡◌ {A = ℕ} 0 1 = cc in absurd (omega arith)
-          go (version a b c js) i (ok is r) f k =
-              let m : n ≡ numbers_of s (ok (version a b c js) v) = p ∙ ap (numbers_of s) i in
-              let (x, y, w) = fits_all a b c (sym (ap (λ x. x.large) m) ∙ l) in
-              rw (answer-is (ok (version a b c js) v) i, f, x, y, w, ← from_is s (version a b c js) v is r i f)
-              (version-eq _ _ _ _ _ _ _ _ _ _ (ap (λ x. x.major) m ∙ rw x) (ap (λ x. x.minor) m ∙ rw y) (ap (λ x. x.patch) m ∙ rw w) (ap (λ x. x.count) k) (ap (λ x. x.from) k))
+      pub version_read : (x : Version) → Some x ≡ numbered a b c q → version_in (Ok x) ≡ version_text_of (version_of s)
+      version_read x e = ap text e ∙ read
 
-pub ruleset versions = (version-long, version-unnumbered, version-broken, version-large, version-read)
+      pub version_large : None ≡ numbered a b c q → Err VersionTooLarge ≡ version_text_of (version_of s)
+      version_large e = ap text e ∙ read
+
+pub ruleset versions = (version_long, version_unnumbered, version_broken, version_large, version_read)
 
 -- ---- for callers
 
--- an accepted version was read, and fits
-accepted-is : (s : List ℕ) (v : R.Version) → version_of s ≡ accepted v → (version_fits v ≡ true) × (r : List ℕ) × (read_version s ≡ ok v r)
-unfolding version_of versioned
-accepted-is s v e = go (leb (length s) longest) (read_version s) refl e
-  where
-    fit : (w : R.Version) (r : List ℕ) (x : Bool) → version_fits w ≡ x → read_version s ≡ ok w r → pick x (accepted w) (refused 9) ≡ accepted v
-        → (version_fits v ≡ true) × (r : List ℕ) × (read_version s ≡ ok v r)
-    fit w r true f i e = let z : w ≡ v = cc in (rw z at f, r, rw z at i)
-    fit w r false f i e = let z : ◌≡◌ {A = ℕ} 0 1 = cc in absurd (omega arith)
+module _ (s : List ℕ) (w : Std.Result Version Refusal) (e : version_in w ≡ version_text_of (version_of s)) where
+  pub version_held : (v : Version) → w ≡ Ok v → version_of s ≡ accepted (version_is v)
+  unfolding version_text_of
+  version_held v q = go (version_of s) refl (rw q at e)
+    where
+      go : (a : Answer R.Version) → version_of s ≡ a → version_in (Ok v) ≡ version_text_of a → version_of s ≡ accepted (version_is v)
+      go (accepted (version a b c is)) x k = x ∙ ap accepted (let p : ◌≡◌ {A = R.Version × ℕ} (version_is v, v.count) (version a b c is, length is) = cc in ap (λ y. y.0) (sym p))
+      go (refused n) x k = cc
 
-    go : (x : Bool) (y : Result R.Version) → read_version s ≡ y → unless 9 version_fits (pick x (versioned y) (refused 8)) ≡ accepted v
-        → (version_fits v ≡ true) × (r : List ℕ) × (read_version s ≡ ok v r)
-    go false y i e = let z : ◌≡◌ {A = ℕ} 0 1 = cc in absurd (omega arith)
-    go true fail i e = let z : ◌≡◌ {A = ℕ} 0 1 = cc in absurd (omega arith)
-    go true (ok w r) i e = fit w r (version_fits w) refl i e
-
--- the numbers of a version, and what follows them
-parts_are : (s : List ℕ) (a b c : ℕ) (is : List Identifier) (r : List ℕ) → read_version s ≡ ok (version a b c is) r
-    → (x : R.Version) × (t : List ℕ) × (e : List ℕ) × (read_numbers s ≡ ok x t) × (read_tail t ≡ ok is e)
-unfolding ◌then◌
-parts_are s a b c is r q = go (read_numbers s) refl (sym (version-is s) ∙ q)
-  where
-    behind : (x : R.Version) (t : List ℕ) → read_numbers s ≡ ok x t → (g : Result (List Identifier)) → read_tail t ≡ g
-        → (g then λ is e. ok (identified x is) e) ≡ ok (version a b c is) r → (x : R.Version) × (t : List ℕ) × (e : List ℕ) × (read_numbers s ≡ ok x t) × (read_tail t ≡ ok is e)
-    behind x t i fail k e = let z : ◌≡◌ {A = ℕ} 0 1 = cc in absurd (omega arith)
-    behind (version a' b' c' js) t i (ok ks u) k e = let z : ks ≡ is = cc in (version a' b' c' js, t, u, i, k ∙ ap (λ l. ok l u) z)
-
-    go : (g : Result R.Version) → read_numbers s ≡ g → (g then λ n t. finish n t) ≡ ok (version a b c is) r
-        → (x : R.Version) × (t : List ℕ) × (e : List ℕ) × (read_numbers s ≡ ok x t) × (read_tail t ≡ ok is e)
-    go fail i e = let z : ◌≡◌ {A = ℕ} 0 1 = cc in absurd (omega arith)
-    go (ok x t) i e = behind x t i (read_tail t) refl e
-
--- the sign of a prerelease, behind the numbers
-sign-behind : (s : List ℕ) → Gives (λ u. Behind 1 s) (read_numbers s then λ n t. literal (bytes "-") t)
-sign-behind s = gives_then (numbers-behind s) λ n t h. gives-map (literal-behind (bytes "-") t) λ u r k. behind-both h k (omega arith)
-
-pub prerelease-within : (s : List ℕ) → prerelease_from s ≤ length s
-prerelease-within s = go (read_numbers s then λ n t. literal (bytes "-") t) (sign-behind s)
-  where
-    go : (g : Result (Unit {0})) → Gives (λ u. Behind 1 s) g → on_rest length g ≤ length s
-    go fail h = omega arith
-    go (ok x r) (gives h) = omega (arith, behind-left h)
-
-module _ (s : List ℕ) (a b c : ℕ) (is : List Identifier) (q : version_of s ≡ accepted (version a b c is)) where
-  -- the identifiers are those that stand from there on
-  pub version-identifiers : (length is ≡ 0 → ⊥) → version_identifiers_in (drop (length s - prerelease_from s) s) ≡ is
-  unfolding version_identifiers_in ◌then◌
-  version-identifiers z =
-      let (f, r, i) = accepted-is s (version a b c is) q in
-      let (x, t, e, k, l) = parts_are s a b c is r i in
-      let (u, y, w, m) = tail-sign t is e l z in
-      let o : (read_numbers s then λ n t. literal (bytes "-") t) ≡ ok tt u = rw (k, y) in
-      let d : u ≡ drop (length s - length u) s = behind-drop (given (rw o at (sign-behind s))) in
-      let p : prerelease_from s ≡ length u = ap (on_rest length) o in
-      rw (p, ← d, m)
-
-  -- the numbers fit
-  pub version-numbers : (a ≤ largest) × (b ≤ largest) × (c ≤ largest)
-  unfolding version_fits
-  version-numbers =
-      let (x, y) = both (fits a) (fits b && fits c) (accepted-is s (version a b c is) q).0 in
-      let (w, z) = both (fits b) (fits c) y in
-      (leb-true a largest x, leb-true b largest w, leb-true c largest z)
+  pub version_refused : (y : Refusal) → w ≡ Err y → version_of s ≡ refused (number_of y)
+  unfolding version_text_of
+  version_refused y q = go (decided s) refl (rw q at e)
+    where
+      go : {x : Answer R.Version} → Decided s x → version_of s ≡ x → Err y ≡ version_text_of x → version_of s ≡ refused (number_of y)
+      go (long l) k j = let z : y ≡ NoVersion = cc in rw z k
+      go (underivable u) k j = let z : y ≡ NoVersion = cc in rw z k
+      go (large l d f) k j = let z : y ≡ VersionTooLarge = cc in rw z k
+      go (accepts {v = version a b c is} l d f) k j = cc

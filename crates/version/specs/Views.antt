@@ -1,44 +1,41 @@
 -- The parts of a version's reader, each with what the code hands back of it: numbers as 64 bits hold them, and identifiers by how many they
--- are and where they begin.
+-- are and the text that they begin.
 -- Assumes nothing.
-use Rattle.std.specs.Prelude.{ℕ, ◌-◌, List, [], ◌∷◌, Bool, true, false, not, ◌&&◌, eqb, length, take}
+use Rattle.std.specs.Prelude as Std
+use Rattle.std.specs.Prelude.{Ok, Err, ℕ, List, [], Bool, ◌&&◌, eqb, length, Option, Some, None}
 use Rattle.rules.specs.Lists.{each}
 use Rattle.rules.specs.Bytes.{bytes, pick, is_digit, value}
 use Rattle.rules.specs.Syntax.{Identifier}
-use Rattle.rules.specs.Parse.{Result, fail, ok, ◌then◌, all, literal, read_number, at_end}
+use Rattle.rules.specs.Parse.{Result, fail, ok, ◌then◌, read_number, at_end, list_of}
 use Rattle.rules.specs.Answers.{Answer, accepted, refused}
 use Rattle.rules.specs.Version as R
-use Rattle.rules.specs.Version.{version, read_word, leads_zero, read_version_identifier, read_after_dot, read_series}
-use Rattle.rules.specs.Admission.{version_fits}
-use Rattle.lexer.specs.Views.{saturated}
-use Rattle.partial.specs.Views.{beginning, on_rest}
-use Rattle.version.specs.declared.Part.{Part}
-use Rattle.version.specs.declared.Part.TheVariants.{Prerelease, Build}
+use Rattle.rules.specs.Version.{version, read_word, leads_zero, read_version_identifier, read_after_dot, read_series, version_identifiers_in}
+use Rattle.lexer.specs.Views as L
+use Rattle.lexer.specs.Views.{fitting}
+use Rattle.lexer.specs.declared.Qualifier.{Qualifier}
 use Rattle.version.specs.declared.Numbers.{Numbers}
-use Rattle.version.specs.declared.Tail.{Tail}
-use Rattle.version.specs.declared.VersionText.{VersionText}
-use Rattle.version.specs.declared.VersionText.TheVariants as T
+use Rattle.version.specs.declared.Version.{Version}
+use Rattle.refusals.specs.declared.Refusal.{Refusal}
+use Rattle.refusals.specs.declared.Refusal.TheVariants.{NoVersion, VersionTooLarge}
 
 -- ---- identifiers
 
--- the bytes before the last n are digits alone that begin with a zero, and not 0
-unfoldable pub padded : List ℕ → ℕ → Bool
-padded s n = each is_digit (take (length s - n) s) && leads_zero (take (length s - n) s)
+-- a word is digits alone that begin with a zero, and not 0
+unfoldable pub padded : List ℕ → Bool
+padded w = each is_digit w && leads_zero w
 
--- what is read of an identifier of a part
-abbrev pub Piece : Part → Type 0
-Piece Prerelease = Identifier
-Piece Build = List ℕ
+-- the identifiers with dots between that a text begins with
+abbrev pub found_by : {A : Type 0} → (List ℕ → Result A) → List ℕ → List A
+found_by f t = list_of (L.read_series f t)
 
-unfoldable pub read_piece : (p : Part) → List ℕ → Result (Piece p)
-unfolding read_version_identifier read_word
-read_piece Prerelease s = read_version_identifier s
-read_piece Build s = read_word s
+-- how many identifiers a series has, and which they are
+abbrev pub series_of : {A : Type 0} → Result (List A) → Result (ℕ × List A)
+series_of fail = fail
+series_of (ok l r) = ok (length l, l) r
 
--- identifiers with dots between
-unfoldable pub read_pieces : (p : Part) → List ℕ → Result (List (Piece p))
-unfolding read_piece read_after_dot
-read_pieces p s = read_piece p s then λ a t. all (read_after_dot (read_piece p)) t then λ l r. ok (a ∷ l) r
+abbrev pub series_in : {A : Type 0} → (List ℕ → Result A) → Option Qualifier → Result (ℕ × List A)
+series_in f None = fail
+series_in f (Some q) = ok (q.count, found_by f q.identifiers.now) q.left.now
 
 -- ---- the numbers
 
@@ -48,15 +45,14 @@ unfolding read_after_dot
 read_numbers s =
     read_number s then λ a t. read_after_dot read_number t then λ b u. read_after_dot read_number u then λ c v. ok (version (value a) (value b) (value c) []) v
 
-abbrev pub no_numbers : ℕ → Numbers
-no_numbers left = record { major = 0; minor = 0; patch = 0; large = false; left = left }
+-- each where 64 bits hold it
+abbrev pub numbers_of : Result R.Version → Result (Option ℕ × Option ℕ × Option ℕ)
+numbers_of fail = fail
+numbers_of (ok (version a b c is) r) = ok (fitting a, fitting b, fitting c) r
 
--- a number above the largest is given as the largest, and all are marked
-unfoldable pub numbers_of : List ℕ → Result R.Version → Numbers
-unfolding version_fits
-numbers_of s fail = no_numbers (length s)
-numbers_of s (ok (version a b c is) r) =
-    record { major = saturated a; minor = saturated b; patch = saturated c; large = not (version_fits (version a b c is)); left = length r }
+abbrev pub numbers_in : Option Numbers → Result (Option ℕ × Option ℕ × Option ℕ)
+numbers_in None = fail
+numbers_in (Some n) = ok (n.major, n.minor, n.patch) n.left.now
 
 -- ---- what follows the numbers
 
@@ -65,18 +61,33 @@ unfoldable pub read_tail : List ℕ → Result (List Identifier)
 unfolding read_version_identifier read_word read_series
 read_tail s = read_series (bytes "-") read_version_identifier s then λ is t. read_series (bytes "+") read_word t then λ build r. at_end r then λ u e. ok is e
 
-unfoldable pub tail_of : List ℕ → Result (List Identifier) → Tail
-tail_of s fail = record { whole = false; count = 0; from = 0 }
-tail_of s (ok is r) = record { whole = true; count = length is; from = beginning is (length s - 1) }
+abbrev pub tail_of : Result (List Identifier) → Option (ℕ × List Identifier)
+tail_of fail = None
+tail_of (ok is r) = Some (length is, is)
+
+abbrev pub tail_in : Option Qualifier → Option (ℕ × List Identifier)
+tail_in None = None
+tail_in (Some q) = Some (q.count, version_identifiers_in q.identifiers.now)
 
 -- ---- versions
 
--- how many bytes are left behind the `-` of a version text
-abbrev pub prerelease_from : List ℕ → ℕ
-prerelease_from s = on_rest length (read_numbers s then λ n t. literal (bytes "-") t)
+-- with what follows the numbers, where none is too large
+abbrev pub numbered : Option ℕ → Option ℕ → Option ℕ → Qualifier → Option Version
+numbered None b c q = None
+numbered (Some a) None c q = None
+numbered (Some a) (Some b) None q = None
+numbered (Some a) (Some b) (Some c) q = Some (record { major = a; minor = b; patch = c; count = q.count; prerelease = q.identifiers })
+
+-- the rules' version for the code's
+abbrev pub version_is : Version → R.Version
+version_is v = version v.major v.minor v.patch (version_identifiers_in v.prerelease.now)
+
+-- with how many prerelease identifiers it has
+abbrev pub version_in : Std.Result Version Refusal → Std.Result (R.Version × ℕ) Refusal
+version_in (Ok v) = Ok (version_is v, v.count)
+version_in (Err r) = Err r
 
 -- the version, or which of 01's refusals 8 and 9 it is
-unfoldable pub version_text_of : List ℕ → Answer R.Version → VersionText
-version_text_of s (accepted (version a b c is)) =
-    T.Version (record { major = a; minor = b; patch = c; count = length is; from = beginning is (prerelease_from s) })
-version_text_of s (refused n) = pick (eqb n 8) T.NoVersion T.TooLarge
+unfoldable pub version_text_of : Answer R.Version → Std.Result (R.Version × ℕ) Refusal
+version_text_of (accepted (version a b c is)) = Ok (version a b c is, length is)
+version_text_of (refused n) = Err (pick (eqb n 8) NoVersion VersionTooLarge)

@@ -1,6 +1,3 @@
-pub mod Behinds
-pub mod Starts
-pub mod Taking
-pub mod Nexts
-pub mod Within
-pub mod Ends
+pub mod Opened
+pub mod Shapes
+pub mod Steps

@@ -2,443 +2,257 @@
 // which is an item or a side of a hyphen range, and expands it; every pass over a text is one loop over steps.
 #![tactic(auto)]
 
-ghost use Rattle.std.specs.Prelude.{◌≡◌, ◌+◌, ◌≤◌, [], length};
-ghost use Rattle.rules.specs.Syntax.{major_minor_patch};
-ghost use Rattle.rules.specs.Walk.{closes, after_range, continues, follow, stuck, is_bare, right_of, taken};
+ghost use Rattle.std.specs.Prelude.{◌≡◌, true, false};
+ghost use Rattle.rules.specs.Parse.{spaces₁, read_partial};
+ghost use Rattle.rules.specs.Expansion as E;
+ghost use Rattle.rules.specs.Walk as W;
+ghost use Rattle.lexer.specs.Views.{rest_in, rest_of};
 ghost use Rattle.range.specs.Views.{compat_of, prefix_of, shape_of};
-ghost use Rattle.walk.specs.Views.{stage_of, stage_for, behind_of, spaced_to, is_item, is_range, is_right, is_lost, item_text, lead_item, lead_at, component_for, over_of, step_of, everything_to, step_at, unread_at, behind_at, taken_right, taken_at, Steps, Takes};
+ghost use Rattle.walk.specs.Views.{stage_of, behind_is, behind_in, next_is, next_behind, expansion_behind, item_in, item_of, item_end, end_text, step_in, step_of, step_at, ItemStep};
 
-use lexer::{skip_spaces, starts_with};
+use lexer::{is_space, skip_bytes, skip_spaces};
 use partial::{Op, Partial, PartialKind, read_partial};
-use range::{
-    Compat, Expansion, Kept, Lead, Prefix, Raised, hyphen_left, hyphen_right, read_prefix, simple,
-};
+use range::{Compat, Component, Expansion, Prefix, hyphen_left, hyphen_right, read_prefix, simple};
 
 // ---- what stands behind a piece
 
-// An item of the same range; a further range; the right side of a hyphen range, whose left side gave a row, or gave none; the text's end; or
-// nothing that the grammar has.
+// An item of the same range; a further range; behind the dash, the right side of a hyphen range; the text's end.
 #[derive(Clone, Copy)]
+pub enum Behind<'a> {
+    Item(&'a [u8]),
+    Range(&'a [u8]),
+    Dash(&'a [u8]),
+    End,
+}
+
+// Behind a range and spaces: the end, or the separator.
+#[tactic(auto, unfolding(crate::proofs::Opened::readers))]
+fn closes(s: &[u8]) -> Option<Behind<'_>>
+    ensures { behind_in result ≡ W.closes s.now }
+{
+    if s.is_empty() {
+        return Some(Behind::End);
+    }
+    Some(Behind::Range(skip_bytes(s, b"||")?))
+}
+
+#[tactic(auto, unfolding(crate::proofs::Opened::readers))]
+fn after_range(s: &[u8]) -> Option<Behind<'_>>
+    ensures { behind_in result ≡ W.after_range s.now }
+{
+    closes(skip_spaces(s))
+}
+
+// One or more spaces.
+#[tactic(auto, unfolding(crate::proofs::Opened::readers))]
+fn skip_some_spaces(s: &[u8]) -> Option<&[u8]>
+    ensures { rest_in result ≡ rest_of (spaces₁ s.now) }
+{
+    match s {
+        [b, left @ ..] if is_space(*b) => Some(skip_spaces(left)),
+        _ => None,
+    }
+}
+
+// Behind an item and spaces, if there were any. One byte decides.
+#[tactic(auto, unfolding(crate::proofs::Opened::readers))]
+fn continues(s: &[u8], dashed: bool, gap: bool) -> Option<Behind<'_>>
+    ensures { behind_in result ≡ W.continues dashed gap s.now }
+{
+    match s {
+        [] => Some(Behind::End),
+        [b'|', ..] => closes(s),
+        [b'-', left @ ..] if gap & dashed => Some(Behind::Dash(skip_some_spaces(left)?)),
+        _ if gap => Some(Behind::Item(s)),
+        [b',', left @ ..] => Some(Behind::Item(skip_some_spaces(left)?)),
+        _ => None,
+    }
+}
+
+#[tactic(auto, unfolding(crate::proofs::Opened::readers))]
+fn follow(s: &[u8], dashed: bool) -> Option<Behind<'_>>
+    ensures { behind_in result ≡ W.follow dashed s.now }
+{
+    let behind = skip_spaces(s);
+    continues(behind, dashed, behind.len() < s.len())
+}
+
+// ---- a step
+
+// Where a step begins: an item of the same range; a range; the right side of a hyphen range whose left side gave a row, or gave none.
+#[derive(Clone, Copy, PartialEq, Eq)]
 pub enum Stage {
     Item,
     Range,
     Right,
     Only,
-    End,
-    Bad,
 }
 
-// An item is read at this stage, not a hyphen's right side.
-fn is_item(stage: Stage) -> bool
-    ensures { result ≡ is_item (stage_of stage) }
-{
-    match stage {
-        Stage::Item => true,
-        Stage::Range => true,
-        Stage::Right => false,
-        Stage::Only => false,
-        Stage::End => false,
-        Stage::Bad => false,
-    }
-}
-
-// A range begins.
-pub fn is_range(stage: Stage) -> bool
-    ensures { result ≡ is_range (stage_of stage) }
-{
-    match stage {
-        Stage::Item => false,
-        Stage::Range => true,
-        Stage::Right => false,
-        Stage::Only => false,
-        Stage::End => false,
-        Stage::Bad => false,
-    }
-}
-
-// A right side begins, behind a left side that is still to be expanded.
-fn is_right(stage: Stage) -> bool
-    ensures { result ≡ is_right (stage_of stage) }
-{
-    match stage {
-        Stage::Item => false,
-        Stage::Range => false,
-        Stage::Right => true,
-        Stage::Only => false,
-        Stage::End => false,
-        Stage::Bad => false,
-    }
-}
-
-// What an item cannot be followed by.
-fn is_lost(stage: Stage) -> bool
-    ensures { result ≡ is_lost (stage_of stage) }
-{
-    match stage {
-        Stage::Item => false,
-        Stage::Range => false,
-        Stage::Right => false,
-        Stage::Only => true,
-        Stage::End => false,
-        Stage::Bad => true,
-    }
-}
-
-// Where left bytes are left.
+// A piece, expanded: the partial, whose numbers as they stand go under the operator that is kept, and of which a component is raised. Its item begins
+// where `begin` does, with its operator if it has one, and behind the partial stands `end`. The next step begins at a stage, unless the text ends.
 #[derive(Clone, Copy)]
-struct Behind {
-    stage: Stage,
-    left: usize,
+pub struct Step<'a> {
+    pub kept: Option<Op>,
+    pub raised: Option<Component>,
+    pub partial: Partial<'a>,
+    pub next: Option<(Stage, &'a [u8])>,
+    pub begin: &'a [u8],
+    pub end: &'a [u8],
 }
 
-// Behind a range and spaces: the end, or the separator.
-fn closes(s: &[u8]) -> Behind
-    ensures { result ≡ behind_of (closes s.now) }
+// The right side of a hyphen range with a left side of this kind.
+fn right_of(kind: PartialKind) -> Stage
+    ensures { stage_of result ≡ W.right_of (shape_of kind 0 0) }
 {
-    if s.len() == 0 {
-        return Behind {
-            stage: Stage::End,
-            left: 0,
-        };
-    }
-    if starts_with(s, b"||") {
-        return Behind {
-            stage: Stage::Range,
-            left: s.len() - 2,
-        };
-    }
-    Behind {
-        stage: Stage::Bad,
-        left: 0,
+    match kind {
+        PartialKind::XRangeOnly => Stage::Only,
+        _ => Stage::Right,
     }
 }
 
-fn after_range(s: &[u8]) -> Behind
-    ensures { result ≡ behind_of (after_range s.now) }
+// Where the next step begins; a right side begins at the stage `right`.
+fn next_at(behind: Behind<'_>, right: Stage) -> Option<(Stage, &[u8])>
+    ensures { next_is result ≡ next_behind (behind_is behind.entry) (stage_of right) }
 {
-    let n = skip_spaces(s);
-    let at = s.len() - n;
-    closes(&s[at..])
-}
-
-// One or more spaces, and then this stage.
-fn spaced(s: &[u8], stage: Stage) -> Behind
-    ensures { result ≡ behind_of (spaced_to (stage_of stage) s.now) }
-{
-    let n = skip_spaces(s);
-    if n == s.len() {
-        return Behind {
-            stage: Stage::Bad,
-            left: 0,
-        };
-    }
-    Behind { stage, left: n }
-}
-
-// Behind an item and spaces, if there were any. One byte decides.
-fn continues(s: &[u8], dashed: bool, gap: bool) -> Behind
-    ensures { result ≡ behind_of (continues dashed gap s.now) }
-{
-    if s.len() == 0 {
-        return Behind {
-            stage: Stage::End,
-            left: 0,
-        };
-    }
-    let b = s[0];
-    if b == b'|' {
-        return closes(s);
-    }
-    if gap {
-        if dashed & (b == b'-') {
-            return spaced(&s[1..], Stage::Right);
-        }
-        return Behind {
-            stage: Stage::Item,
-            left: s.len(),
-        };
-    }
-    if b == b',' {
-        return spaced(&s[1..], Stage::Item);
-    }
-    Behind {
-        stage: Stage::Bad,
-        left: 0,
-    }
-}
-
-fn follow(s: &[u8], dashed: bool) -> Behind
-    ensures { result ≡ behind_of (follow dashed s.now) }
-{
-    let n = skip_spaces(s);
-    let at = s.len() - n;
-    continues(&s[at..], dashed, n < s.len())
-}
-
-// ---- what stands before a partial, and behind it
-
-// An item's prefix, and where its partial begins.
-fn lead_item(s: &[u8]) -> Lead
-    ensures value { result ≡ lead_item s.now }
-    ensures within { result.left ≤ length s.now }
-{
-    let l = read_prefix(s);
-    if l.left == s.len() {
-        return l;
-    }
-    let at = s.len() - l.left;
-    let prefix = l.prefix;
-    Lead {
-        prefix,
-        left: skip_spaces(&s[at..]),
-    }
-}
-
-// A range may begin with spaces. How many bytes are left behind them.
-fn skip_to_item(s: &[u8], stage: Stage) -> usize
-    ensures value { result ≡ length (item_text (stage_of stage) s.now) }
-    ensures within { result ≤ length s.now }
-{
-    if is_range(stage) {
-        return skip_spaces(s);
-    }
-    s.len()
-}
-
-// The prefix by stage, where no spaces are to be skipped: a hyphen's right side has none.
-fn lead_at(s: &[u8], stage: Stage) -> Lead
-    requires { item_text (stage_of stage) s.now ≡ s.now }
-    ensures value { result ≡ lead_at (stage_of stage) s.now }
-    ensures within { result.left ≤ length s.now }
-{
-    if is_item(stage) {
-        return lead_item(s);
-    }
-    Lead {
-        prefix: Prefix::Bare,
-        left: s.len(),
-    }
-}
-
-fn is_bare(prefix: Prefix) -> bool
-    ensures { result ≡ is_bare (prefix_of prefix) }
-{
-    match prefix {
-        Prefix::Bare => true,
-        Prefix::Tilde => false,
-        Prefix::Caret => false,
-        Prefix::Op(op) => false,
-    }
-}
-
-// What stands behind a partial. A dash may follow a bare one that begins a range.
-fn after_partial(s: &[u8], stage: Stage, prefix: Prefix) -> Behind
-    ensures { result ≡ behind_of (behind_at (stage_of stage) (prefix_of prefix) s.now) }
-{
-    if is_item(stage) {
-        return follow(s, is_range(stage) & is_bare(prefix));
-    }
-    after_range(s)
-}
-
-// ---- a step
-
-// A piece, expanded: a comparator with the numbers as they stand, under the operator that is kept; and one with the raised component. Its
-// identifiers are count many, and their qualifier begins where from bytes of the text are left. Where a number is above the largest, large;
-// where one cannot be raised, over. Then what stands behind it, where left bytes are left. It begins where begin
-// bytes are left, with its operator if it has one, and its partial ends where end are.
-#[derive(Clone, Copy)]
-pub struct Step {
-    pub kept: Kept,
-    pub raised: Raised,
-    pub major: u64,
-    pub minor: u64,
-    pub patch: u64,
-    pub count: usize,
-    pub from: usize,
-    pub large: bool,
-    pub over: bool,
-    pub stage: Stage,
-    pub left: usize,
-    pub begin: usize,
-    pub end: usize,
-}
-
-// The component that is raised is the largest number.
-fn is_over(raised: Raised, major: u64, minor: u64, patch: u64) -> bool
-    ensures { result ≡ over_of (component_for raised) (major_minor_patch major minor patch []) }
-{
-    match raised {
-        Raised::Major => major == 18446744073709551615,
-        Raised::Minor => minor == 18446744073709551615,
-        Raised::Patch => patch == 18446744073709551615,
-        Raised::Nothing => false,
-    }
-}
-
-impl Step {
-    // The partial p, expanded.
-    fn new(p: Partial, e: Expansion, stage: Stage, left: usize, begin: usize) -> Step
-        ensures { Steps p e stage left begin result }
-    {
-        let kept = e.kept;
-        let raised = e.raised;
-        Step {
-            kept,
-            raised,
-            major: p.major,
-            minor: p.minor,
-            patch: p.patch,
-            count: p.count,
-            from: p.from,
-            large: p.large,
-            over: is_over(raised, p.major, p.minor, p.patch),
-            stage,
-            left,
-            begin,
-            end: p.left,
-        }
-    }
-
-    // No item: every version.
-    fn everything(stage: Stage, left: usize, begin: usize, end: usize) -> Step
-        ensures { result ≡ everything_to stage left begin end }
-    {
-        Step {
-            kept: Kept::Op(Op::Gte),
-            raised: Raised::Nothing,
-            major: 0,
-            minor: 0,
-            patch: 0,
-            count: 0,
-            from: 0,
-            large: false,
-            over: false,
-            stage,
-            left,
-            begin,
-            end,
-        }
-    }
-
-    // There is no reading from here on.
-    fn stuck(begin: usize, end: usize) -> Step
-        ensures { result ≡ step_of 0 begin end stuck }
-    {
-        Step::everything(Stage::Bad, 0, begin, end)
+    match behind {
+        Behind::Item(left) => Some((Stage::Item, left)),
+        Behind::Range(left) => Some((Stage::Range, left)),
+        Behind::Dash(left) => Some((right, left)),
+        Behind::End => None,
     }
 }
 
 // ---- a piece of the text
 
-// The right side of a hyphen range with a left side of this kind.
-fn right_of(kind: PartialKind) -> Stage
-    ensures { result ≡ stage_for (right_of (shape_of kind 0 0)) }
+// No item: every version.
+#[tactic(auto, unfolding(crate::proofs::Opened::readers))]
+fn everything(s: &[u8]) -> Option<Step<'_>>
+    ensures { step_in result ≡ step_of s.now s.now (W.step_to E.everything (W.after_range s.now)) }
 {
-    match kind {
-        PartialKind::XRangeOnly => Stage::Only,
-        PartialKind::MajorOnly => Stage::Right,
-        PartialKind::MajorMinor => Stage::Right,
-        PartialKind::MajorMinorPatch => Stage::Right,
+    let behind = after_range(s)?;
+    Some(Step {
+        kept: Some(Op::Gte),
+        raised: None,
+        partial: Partial::zero(),
+        next: next_at(behind, Stage::Right),
+        begin: s,
+        end: s,
+    })
+}
+
+// What stands before an item's partial, and its text.
+#[tactic(auto, unfolding(crate::proofs::Opened::readers))]
+fn read_lead(s: &[u8]) -> (Prefix, &[u8])
+    ensures prefix { prefix_of result.0 ≡ W.prefix_at s.now }
+    ensures left { result.1.now ≡ W.partial_at s.now }
+{
+    match read_prefix(s) {
+        Some((prefix, left)) => (prefix, skip_spaces(left)),
+        None => (Prefix::Bare, s),
     }
 }
 
 // An item, or the left side of a hyphen range, by what follows it.
-fn taken_item(p: Partial, prefix: Prefix, b: Behind, compat: Compat, begin: usize) -> Step
-    ensures { Takes p b begin (taken (compat_of compat) (prefix_of prefix)) result }
+#[tactic(auto, unfolding(crate::proofs::Opened::readers))]
+fn expanded(prefix: Prefix, partial: &Partial<'_>, behind: Behind<'_>, compat: Compat) -> Expansion
+    ensures { result ≡ expansion_behind (compat_of compat) (prefix_of prefix) (shape_of partial.now.kind partial.now.major partial.now.minor) (behind_is behind.entry) }
 {
-    let kind = p.kind;
-    let stage = b.stage;
-    if is_lost(stage) {
-        return Step::stuck(begin, p.left);
+    match behind {
+        Behind::Dash(_) => hyphen_left(partial.kind),
+        _ => simple(prefix, partial.kind, partial.major, partial.minor, compat),
     }
-    if is_right(stage) {
-        return Step::new(p, hyphen_left(kind), right_of(kind), b.left, begin);
-    }
-    Step::new(
-        p,
-        simple(prefix, kind, p.major, p.minor, compat),
-        stage,
-        b.left,
-        begin,
-    )
 }
 
-// The right side of a hyphen range; its left side was a wildcard, or had a number.
-fn taken_right(p: Partial, stage: Stage, b: Behind, begin: usize) -> Step
-    ensures { Takes p b begin (taken_right (stage_of stage)) result }
+fn is_bare(prefix: Prefix) -> bool
+    ensures { result ≡ W.is_bare (prefix_of prefix) }
 {
-    let kind = p.kind;
-    let next = b.stage;
+    matches!(prefix, Prefix::Bare)
+}
+
+// What is read of an item: its prefix and its partial; behind it `end` is left.
+#[derive(Clone, Copy)]
+struct Item<'a> {
+    prefix: Prefix,
+    partial: Partial<'a>,
+    end: &'a [u8],
+}
+
+#[tactic(auto, unfolding(crate::proofs::Opened::readers))]
+fn read_item(s: &[u8]) -> Option<Item<'_>>
+    ensures { item_in result ≡ item_of s.now (read_partial (W.partial_at s.now)) }
+{
+    let (prefix, text) = read_lead(s);
+    let (partial, end) = read_partial(text)?;
+    Some(Item {
+        prefix,
+        partial,
+        end,
+    })
+}
+
+// The step of an item that begins where s does. The first one of a range may be the left side of a hyphen range, if it is bare.
+#[tactic(auto, unfolding(crate::proofs::Opened::readers))]
+fn item_step<'a>(s: &'a [u8], item: Item<'a>, first: bool, compat: Compat) -> Option<Step<'a>>
+    ensures { ItemStep (compat_of compat) first s.now item.entry result }
+{
+    let behind = follow(item.end, first & is_bare(item.prefix))?;
+    let e = expanded(item.prefix, &item.partial, behind, compat);
+    Some(Step {
+        kept: e.kept,
+        raised: e.raised,
+        partial: item.partial,
+        next: next_at(behind, right_of(item.partial.kind)),
+        begin: s,
+        end: item.end,
+    })
+}
+
+// The right side of a hyphen range with a left side of this kind.
+#[tactic(auto, unfolding(crate::proofs::Opened::readers))]
+fn right_step(s: &[u8], left: PartialKind) -> Option<Step<'_>>
+    ensures { step_in result ≡ step_of s.now (end_text W.right s.now) (W.next_right (shape_of left 0 0) s.now) }
+{
+    let (partial, end) = read_partial(s)?;
+    let behind = after_range(end)?;
+    let e = hyphen_right(left, partial.kind);
+    Some(Step {
+        kept: e.kept,
+        raised: e.raised,
+        partial,
+        next: next_at(behind, Stage::Right),
+        begin: s,
+        end,
+    })
+}
+
+// A range from its first item on, or an empty one.
+#[tactic(auto, unfolding(crate::proofs::Opened::readers))]
+fn range_step(s: &[u8], compat: Compat) -> Option<Step<'_>>
+    ensures { step_in result ≡ step_of s.now (item_end s.now) (W.next_item (compat_of compat) true (W.step_to E.everything (W.after_range s.now)) s.now) }
+{
+    match read_item(s) {
+        Some(item) => item_step(s, item, true, compat),
+        None => everything(s),
+    }
+}
+
+// A further item.
+#[tactic(auto, unfolding(crate::proofs::Opened::readers))]
+fn further_step(s: &[u8], compat: Compat) -> Option<Step<'_>>
+    ensures { step_in result ≡ step_of s.now (item_end s.now) (W.next_item (compat_of compat) false W.stuck s.now) }
+{
+    item_step(s, read_item(s)?, false, compat)
+}
+
+// One piece, expanded, and where the next one begins; nothing where there is no reading from here on.
+#[tactic(auto, unfolding(crate::proofs::Opened::readers))]
+pub fn next(s: &[u8], stage: Stage, compat: Compat) -> Option<Step<'_>>
+    ensures { step_in result ≡ step_at (compat_of compat) (stage_of stage) s.now }
+{
     match stage {
-        Stage::Right => Step::new(
-            p,
-            hyphen_right(PartialKind::MajorOnly, kind),
-            next,
-            b.left,
-            begin,
-        ),
-        Stage::Only => Step::new(
-            p,
-            hyphen_right(PartialKind::XRangeOnly, kind),
-            next,
-            b.left,
-            begin,
-        ),
-        Stage::Item => Step::stuck(begin, p.left),
-        Stage::Range => Step::stuck(begin, p.left),
-        Stage::End => Step::stuck(begin, p.left),
-        Stage::Bad => Step::stuck(begin, p.left),
+        Stage::Item => further_step(s, compat),
+        Stage::Range => range_step(skip_spaces(s), compat),
+        Stage::Right => right_step(s, PartialKind::MajorOnly),
+        Stage::Only => right_step(s, PartialKind::XRangeOnly),
     }
-}
-
-fn taken(p: Partial, prefix: Prefix, stage: Stage, b: Behind, compat: Compat, begin: usize) -> Step
-    ensures { Takes p b begin (taken_at (compat_of compat) (stage_of stage) (prefix_of prefix)) result }
-{
-    if is_item(stage) {
-        return taken_item(p, prefix, b, compat, begin);
-    }
-    taken_right(p, stage, b, begin)
-}
-
-// No partial is read: a range may be empty.
-fn unread(s: &[u8], stage: Stage) -> Step
-    requires { item_text (stage_of stage) s.now ≡ s.now }
-    ensures { result ≡ step_of 0 (length s.now) (length s.now) (unread_at (stage_of stage) s.now) }
-{
-    let empty = is_range(stage);
-    if empty {
-        let b = closes(s);
-        let next = b.stage;
-        return Step::everything(next, b.left, s.len(), s.len());
-    }
-    Step::stuck(s.len(), s.len())
-}
-
-// One piece, expanded, and what stands behind it, where no spaces are to be skipped.
-fn read_piece(s: &[u8], stage: Stage, compat: Compat) -> Step
-    requires { item_text (stage_of stage) s.now ≡ s.now }
-    ensures value { result ≡ step_at (compat_of compat) (stage_of stage) s.now }
-    ensures within { result.count + result.left ≤ length s.now }
-{
-    let l = lead_at(s, stage);
-    let prefix = l.prefix;
-    let at = s.len() - l.left;
-    let p = read_partial(&s[at..]);
-    if p.left == l.left {
-        return unread(s, stage);
-    }
-    let end = s.len() - p.left;
-    let b = after_partial(&s[end..], stage, prefix);
-    taken(p, prefix, stage, b, compat, s.len())
-}
-
-// One piece, expanded, and what stands behind it.
-pub fn next(s: &[u8], stage: Stage, compat: Compat) -> Step
-    ensures value { result ≡ step_at (compat_of compat) (stage_of stage) s.now }
-    ensures within { result.count + result.left ≤ length s.now }
-{
-    let n = skip_to_item(s, stage);
-    let at = s.len() - n;
-    read_piece(&s[at..], stage, compat)
 }

@@ -1,57 +1,26 @@
-use Rattle.bounds.proofs.Bounding.{bounding}
-use borrow.Author.Rules.{rules}
+use Rattle.std.proofs.Common.{◌∙◌, ap, sym, rules}
+use Rattle.rules.specs.Answers.{accepted}
+use Rattle.walk.specs.Views.{step_is, step_in, next_is}
+use Rattle.bounds.proofs.Bounding.{bounding_start, bounding_end, bounding_next, bounding_step, bounding_fewer}
 use Rattle.bounds.proofs.bounds_of.Goals as goal
 
-pub highest-low-requires : goal.highest-low-requires
-highest-low-requires c = search (bounding, rules)
+pub loop-x-init : goal.loop-x-init
+loop-x-init c = let set = c.args.set.now in bounding_start _ _ set.counts set.counted (step_is set.first) set.starts
 
-pub lowest-high-requires : goal.lowest-high-requires
-lowest-high-requires c = search (bounding, rules)
+pub returns-in_default : goal.returns-in_default
+returns-in_default c =
+    ap accepted c.joined.ensures ∙ bounding_end _ _ _ _ (step_is c.loop-x.x) c.loop-x.invariant _ c.with_step-b.ensures (ap (λ n. (next_is n).0) c.in_default.is)
 
-pub everything-range-requires : goal.everything-range-requires
-everything-range-requires c = search (bounding, rules)
+pub unwrap-x-requires : goal.unwrap-x-requires
+unwrap-x-requires c = search (bounding_next _ _ _ _ (step_is c.loop-x.x) c.loop-x.invariant _ c.with_step-b.ensures c.in-Some.stage c.in-Some.left.now (ap next_is c.in-Some.is), rules)
 
-pub next-x-requires : goal.next-x-requires
-next-x-requires c = search (bounding, rules)
+pub loop-x-smaller : goal.loop-x-smaller
+loop-x-smaller c =
+    bounding_fewer _ _ _ _ (step_is c.loop-x.x) c.loop-x.invariant _ c.with_step-b.ensures c.in-Some.stage c.in-Some.left.now (ap next_is c.in-Some.is) (step_is c.unwrap-x.result)
+    (ap step_in (sym c.unwrap-x.ensures) ∙ c.next.ensures)
 
-pub loop-compat-init : goal.loop-compat-init
-loop-compat-init c = search (bounding, rules)
-
-pub with_step-b-requires : goal.with_step-b-requires
-with_step-b-requires c = search (bounding, rules)
-
-pub goes_on-requires : goal.goes_on-requires
-goes_on-requires c = search (bounding, rules)
-
-pub joined-requires : goal.joined-requires
-joined-requires c = search (bounding, rules)
-
-pub returns-then-not-goes_on : goal.returns-then-not-goes_on
-returns-then-not-goes_on c = search (bounding, rules)
-
-pub all_behind-all-requires : goal.all_behind-all-requires
-all_behind-all-requires c = search (bounding, rules)
-
-pub range_behind-range-requires : goal.range_behind-range-requires
-range_behind-range-requires c = search (bounding, rules)
-
-pub overflow_sub-at : goal.overflow_sub-at
-overflow_sub-at c = search (bounding, rules)
-
-pub slice_bounds-next-count : goal.slice_bounds-next-count
-slice_bounds-next-count c = search (bounding, rules)
-
-pub slice_bounds-next-start : goal.slice_bounds-next-start
-slice_bounds-next-start c = search (bounding, rules)
-
-pub slice_bounds-next-end : goal.slice_bounds-next-end
-slice_bounds-next-end c = search (bounding, rules)
-
-pub next-x-requires-in-loop-compat : goal.next-x-requires-in-loop-compat
-next-x-requires-in-loop-compat c = search (bounding, rules)
-
-pub loop-compat-smaller : goal.loop-compat-smaller
-loop-compat-smaller c = search (bounding, rules)
-
-pub loop-compat-preserved : goal.loop-compat-preserved
-loop-compat-preserved c = search (bounding, rules)
+pub loop-x-preserved : goal.loop-x-preserved
+loop-x-preserved c =
+    rw (c.all_behind-all.ensures, c.range_behind-range.ensures)
+    (bounding_step _ _ _ _ (step_is c.loop-x.x) c.loop-x.invariant _ c.with_step-b.ensures c.in-Some.stage c.in-Some.left.now (ap next_is c.in-Some.is) (step_is c.unwrap-x.result)
+    (ap step_in (sym c.unwrap-x.ensures) ∙ c.next.ensures))

@@ -1,21 +1,11 @@
-use Rattle.entries.proofs.Changing.{counts}
-use borrow.Author.Rules.{rules}
+use Rattle.std.proofs.Common.{◌∙◌}
+use Rattle.triples.specs.Views.{bounds_is}
+use Rattle.range.specs.Views.{compat_of}
+use Rattle.entries.proofs.Changing.{entry_added}
 use Rattle.entries.proofs.add_at.Goals as goal
 
-pub add_rows-requires : goal.add_rows-requires
-add_rows-requires c = search (counts, rules)
-
-pub overflow_add-n : goal.overflow_add-n
-overflow_add-n c = search (counts, rules)
-
-pub overflow_cast-n : goal.overflow_cast-n
-overflow_cast-n c = search (counts, rules)
-
-pub put_two-requires : goal.put_two-requires
-put_two-requires c = search (counts, rules)
-
-pub shape_of-shelf : goal.shape_of-shelf
-shape_of-shelf c = search (counts, rules)
-
 pub returns : goal.returns
-returns c = search (counts, rules)
+returns c =
+    c.put_two.ensures
+    ∙ entry_added c.args.shelf.now c.args.n c.requires.counted c.requires.n_lt_capacity c.args.code (compat_of c.args.compat) c.args.text.now _ _ (bounds_is c.args.b) _
+    c.requires.text_len_bound c.put_entry.ensures c.put_bounds.ensures

@@ -1,21 +1,30 @@
-use Rattle.first_fit.proofs.FitLaws.{first_fits}
-use borrow.Author.Rules.{rules}
+use Rattle.std.proofs.Common.{rules}
+use Rattle.std.proofs.lemmas.Result.{err_from_is_err_and}
+use Rattle.rules.specs.Admission.{admits}
+use Rattle.version.specs.Views.{version_is}
+use Rattle.version.proofs.VersionLaws.{version_held, version_refused}
+use Rattle.shelf_rules.specs.Shelf.{entry_fits}
+use Rattle.entries.specs.Views.{row_at}
+use Rattle.entries.proofs.Counting.{OfShelf, of_shelf}
+use Rattle.first_fit.proofs.FitLaws.{not_fitted, no_version, fitted}
 use Rattle.first_fit.proofs.first_fit.Goals as goal
 
-pub count_entries-c-requires : goal.count_entries-c-requires
-count_entries-c-requires c = search (first_fits, rules)
+pub returns-in_err-entries : goal.returns-in_err-entries
+returns-in_err-entries c =
+    let p = err_from_is_err_and c.from_residual.result c.from_residual.ensures.1 in
+    rw (p.1, p.2) (not_fitted c.args.shelf.now c.args.t.now c.of.result c.of.ensures _ c.in_err-entries.was)
 
-pub enum_told-1 : goal.enum_told-1
-enum_told-1 c = search (first_fits, rules)
+pub returns-in_err-v : goal.returns-in_err-v
+returns-in_err-v c =
+    let e = c.in_ok-entries.entries in
+    let h : OfShelf c.args.shelf.now e = of_shelf c.args.shelf.now c.of.result c.of.ensures e c.in_ok-entries.was in
+    let p = err_from_is_err_and c.from_residual-in_err-v.result c.from_residual-in_err-v.ensures.1 in
+    rw (p.1, p.2) (no_version c.args.shelf.now c.args.t.now e h _ (version_refused c.args.t.now c.read_version.result c.read_version.ensures _ c.in_err-v.was))
 
-pub enum_known-c : goal.enum_known-c
-enum_known-c c = search (first_fits, rules)
-
-pub fit_counted-requires : goal.fit_counted-requires
-fit_counted-requires c = search (first_fits, rules)
-
-pub returns-in-NotShelf : goal.returns-in-NotShelf
-returns-in-NotShelf c = search (first_fits, rules)
-
-pub returns-in-Entries : goal.returns-in-Entries
-returns-in-Entries c = search (first_fits, rules)
+pub returns : goal.returns
+returns c =
+    let e = c.in_ok-entries.entries in
+    let h : OfShelf c.args.shelf.now e = of_shelf c.args.shelf.now c.of.result c.of.ensures e c.in_ok-entries.was in
+    let g = version_held c.args.t.now c.read_version.result c.read_version.ensures c.in_ok-v.v c.in_ok-v.was in
+    fitted c.args.shelf.now c.args.t.now e h c.in_ok-v.v g c.first.result
+    (c.first.ensures (λ k. entry_fits admits (version_is c.in_ok-v.v) (row_at k e.bytes.now)) (λ k b i q. search rules))

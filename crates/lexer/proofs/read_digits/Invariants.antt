@@ -1,10 +1,14 @@
-use Rattle.lexer.proofs.Numbers.{Summed}
-use lib.ListN.{length}
-use Prim.Native.Nat.{◌-◌}
+use Rattle.std.proofs.Common.{◌≡◌, length}
+use Rattle.rules.specs.Bytes.{is_digit}
+use Rattle.lexer.specs.Views.{rest, digits_value}
+use Rattle.lexer.proofs.Numbers.{digits_behind}
 use Rattle.lexer.proofs.read_digits.Given as goal
 
-abbrev pub invariant-loop-i : goal.invariant-loop-i
-invariant-loop-i l = Summed l.start l.s l.i l.value l.large
+abbrev pub invariant-loop-left : goal.invariant-loop-left
+invariant-loop-left l = record {
+  value : digits_value l.fn.s ≡ digits_behind l.value l.left;
+  left : rest is_digit l.fn.s ≡ rest is_digit l.left;
+}
 
-abbrev pub decreases-loop-i : goal.decreases-loop-i
-decreases-loop-i l = length l.s - l.i
+abbrev pub decreases-loop-left : goal.decreases-loop-left
+decreases-loop-left l = length l.left

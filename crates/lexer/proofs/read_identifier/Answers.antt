@@ -1,36 +1,11 @@
-use Rattle.lexer.proofs.IdentifierLaws.{reads}
-use borrow.Author.Rules.{rules}
+use Rattle.lexer.proofs.FirstBytes.{word_lem, number_lem, digits_lem}
 use Rattle.lexer.proofs.read_identifier.Goals as goal
 
-pub returns-then-s-eq0 : goal.returns-then-s-eq0
-returns-then-s-eq0 c = search (reads, rules)
-
-pub bounds-s-0 : goal.bounds-s-0
-bounds-s-0 c = search (reads, rules)
-
-pub is_letter-requires : goal.is_letter-requires
-is_letter-requires c = search (reads, rules)
-
-pub slice_bounds-skip_words-count : goal.slice_bounds-skip_words-count
-slice_bounds-skip_words-count c = search (reads, rules)
-
-pub slice_bounds-skip_words-start : goal.slice_bounds-skip_words-start
-slice_bounds-skip_words-start c = search (reads, rules)
-
-pub slice_bounds-skip_words-end : goal.slice_bounds-skip_words-end
-slice_bounds-skip_words-end c = search (reads, rules)
-
-pub skip_words-requires : goal.skip_words-requires
-skip_words-requires c = search (reads, rules)
-
 pub returns-then-is_letter : goal.returns-then-is_letter
-returns-then-is_letter c = search (reads, rules)
+returns-then-is_letter c = word_lem c.args.s.now c.skip_run-left.result.now c.in-len1-up.len_at_least c.is_letter.result c.is_letter.ensures c.if-is_letter.true c.skip_run-left.ensures c.before-then-is_letter.result.now c.before-then-is_letter.ensures
 
-pub read_number-n-requires : goal.read_number-n-requires
-read_number-n-requires c = search (reads, rules)
+pub returns-in-Some : goal.returns-in-Some
+returns-in-Some c = number_lem c.args.s.now c.in-Some.value c.in_ok-n.n.left.now (cc (c.in_ok-n.ensures, c.in-Some.is))
 
-pub returns-then-n-s : goal.returns-then-n-s
-returns-then-n-s c = search (reads, rules)
-
-pub returns : goal.returns
-returns c = search (reads, rules)
+pub returns-in-None : goal.returns-in-None
+returns-in-None c = digits_lem c.args.s.now c.in_ok-n.n.left.now c.before-in-None.result.now (cc (c.in_ok-n.ensures, c.in-None.is)) c.before-in-None.ensures

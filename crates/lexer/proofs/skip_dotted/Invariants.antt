@@ -1,9 +1,15 @@
-use Rattle.lexer.proofs.Counting.{Counted}
-use Rattle.rules.specs.Parse.{read_dot_identifier}
+use Rattle.std.proofs.Common.{◌≡◌, ◌+◌, ◌≤◌, length}
+use Rattle.rules.specs.Parse.{all}
+use Rattle.rules.specs.Version.{read_after_dot}
+use Rattle.lexer.specs.Views.{counted}
+use Rattle.lexer.proofs.Series.{plus}
 use Rattle.lexer.proofs.skip_dotted.Given as goal
 
-abbrev pub invariant-loop-left : goal.invariant-loop-left
-invariant-loop-left l = Counted read_dot_identifier l.s l.count l.left
+abbrev pub invariant-loop-behind : goal.invariant-loop-behind
+invariant-loop-behind g l = record {
+  is : counted (all (read_after_dot g.R.Reader.reads) l.fn.s) ≡ plus l.count (counted (all (read_after_dot g.R.Reader.reads) l.left));
+  few : l.count + length l.left ≤ length l.fn.s;
+}
 
-abbrev pub decreases-loop-left : goal.decreases-loop-left
-decreases-loop-left l = l.left
+abbrev pub decreases-loop-behind : goal.decreases-loop-behind
+decreases-loop-behind g l = length l.left

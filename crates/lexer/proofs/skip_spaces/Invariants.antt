@@ -1,11 +1,9 @@
-use Rattle.lexer.proofs.Scan.{Scanned}
-use Rattle.rules.specs.Bytes.{is_space}
-use lib.ListN.{length}
-use Prim.Native.Nat.{◌-◌}
+use Rattle.std.proofs.Common.{◌≡◌, length}
+use Rattle.rules.specs.Parse.{skip}
 use Rattle.lexer.proofs.skip_spaces.Given as goal
 
-abbrev pub invariant-loop-i : goal.invariant-loop-i
-invariant-loop-i l = Scanned is_space l.s l.i
+abbrev pub invariant-loop-left : goal.invariant-loop-left
+invariant-loop-left l = skip l.fn.s ≡ skip l.left
 
-abbrev pub decreases-loop-i : goal.decreases-loop-i
-decreases-loop-i l = length l.s - l.i
+abbrev pub decreases-loop-left : goal.decreases-loop-left
+decreases-loop-left l = length l.left

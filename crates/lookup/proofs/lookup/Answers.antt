@@ -1,21 +1,39 @@
-use Rattle.lookup.proofs.LookupLaws.{lookups}
-use borrow.Author.Rules.{rules}
+use Rattle.std.proofs.Common.{rules}
+use Rattle.std.proofs.lemmas.Result.{err_from_is_err_and}
+use Rattle.rules.specs.Admission.{admits}
+use Rattle.version.specs.Views.{version_is}
+use Rattle.version.proofs.VersionLaws.{version_held, version_refused}
+use Rattle.shelf_rules.specs.Lookup.{kept_fits}
+use Rattle.entries.specs.Views.{row_at, kept_at}
+use Rattle.entries.proofs.Counting.{OfShelf, of_shelf}
+use Rattle.lookup.proofs.LookupLaws.{not_looked, no_version, entry_room, kept_room, looked}
 use Rattle.lookup.proofs.lookup.Goals as goal
 
-pub count_entries-c-requires : goal.count_entries-c-requires
-count_entries-c-requires c = search (lookups, rules)
+pub returns-in_err-entries : goal.returns-in_err-entries
+returns-in_err-entries c =
+    let p = err_from_is_err_and c.from_residual.result c.from_residual.ensures.1 in
+    rw (p.1, p.2) (not_looked c.args.shelf.now c.args.t.now c.of.result c.of.ensures _ c.in_err-entries.was)
 
-pub enum_told-1 : goal.enum_told-1
-enum_told-1 c = search (lookups, rules)
+pub returns-in_err-v : goal.returns-in_err-v
+returns-in_err-v c =
+    let e = c.in_ok-entries.entries in
+    let h : OfShelf c.args.shelf.now e = of_shelf c.args.shelf.now c.of.result c.of.ensures e c.in_ok-entries.was in
+    let p = err_from_is_err_and c.from_residual-in_err-v.result c.from_residual-in_err-v.ensures.1 in
+    rw (p.1, p.2) (no_version c.args.shelf.now c.args.t.now e h _ (version_refused c.args.t.now c.read_version.result c.read_version.ensures _ c.in_err-v.was))
 
-pub enum_known-c : goal.enum_known-c
-enum_known-c c = search (lookups, rules)
+pub first-requires : goal.first-requires
+first-requires c = λ k i.
+    let e = c.in_ok-entries.entries in
+    let h : OfShelf c.args.shelf.now e = of_shelf c.args.shelf.now c.of.result c.of.ensures e c.in_ok-entries.was in
+    let g = version_held c.args.t.now c.read_version.result c.read_version.ensures c.in_ok-v.v c.in_ok-v.was in
+    let a = entry_room c.args.shelf.now c.args.t.now e h k i in
+    let b = kept_room c.args.shelf.now c.args.t.now e h k i in
+    search rules
 
-pub lookup_counted-requires : goal.lookup_counted-requires
-lookup_counted-requires c = search (lookups, rules)
-
-pub returns-in-NotShelf : goal.returns-in-NotShelf
-returns-in-NotShelf c = search (lookups, rules)
-
-pub returns-in-Entries : goal.returns-in-Entries
-returns-in-Entries c = search (lookups, rules)
+pub returns : goal.returns
+returns c =
+    let e = c.in_ok-entries.entries in
+    let h : OfShelf c.args.shelf.now e = of_shelf c.args.shelf.now c.of.result c.of.ensures e c.in_ok-entries.was in
+    let g = version_held c.args.t.now c.read_version.result c.read_version.ensures c.in_ok-v.v c.in_ok-v.was in
+    looked c.args.shelf.now c.args.t.now e h c.in_ok-v.v g c.first.result
+    (c.first.ensures (λ k. kept_fits admits (version_is c.in_ok-v.v) (row_at k e.bytes.now) (kept_at k e.bytes.now)) (λ k b i q. search rules))

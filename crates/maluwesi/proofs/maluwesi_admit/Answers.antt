@@ -2,23 +2,8 @@ use Rattle.maluwesi.proofs.Exporting.{known, unknown}
 use borrow.Author.Rules.{rules}
 use Rattle.maluwesi.proofs.maluwesi_admit.Goals as goal
 
-pub mode_of-m-requires : goal.mode_of-m-requires
-mode_of-m-requires c = search (known, unknown, rules)
-
-pub enum_known-m : goal.enum_known-m
-enum_known-m c = search (known, unknown, rules)
-
-pub enum_told-1 : goal.enum_told-1
-enum_told-1 c = search (known, unknown, rules)
-
 pub returns-in_default : goal.returns-in_default
-returns-in_default c = search (known, unknown, rules)
-
-pub admit-requires : goal.admit-requires
-admit-requires c = search (known, unknown, rules)
-
-pub put_admitted-requires : goal.put_admitted-requires
-put_admitted-requires c = search (known, unknown, rules)
+returns-in_default c = search (unknown, c.in_default.ensures, rules)
 
 pub returns : goal.returns
-returns c = search (known, unknown, rules)
+returns c = search (known, c.in-Ok.ensures, rules)

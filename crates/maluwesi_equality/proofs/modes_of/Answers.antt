@@ -1,30 +1,15 @@
-use Rattle.maluwesi_equality.proofs.Exporting.{pairs}
-use borrow.Author.Rules.{rules}
+use Rattle.std.proofs.lemmas.Result.{err_from_is_err_and}
+use Rattle.maluwesi_equality.proofs.Exporting.{first-none, second_none, both-modes}
 use Rattle.maluwesi_equality.proofs.modes_of.Goals as goal
 
-pub mode_of-m-requires : goal.mode_of-m-requires
-mode_of-m-requires c = search (pairs, rules)
+pub returns-in_err-compat : goal.returns-in_err-compat
+returns-in_err-compat c =
+    let p = err_from_is_err_and c.from_residual.result c.from_residual.ensures.1 in rw p.1 (first-none _ _ c.in_err-compat.ensures)
 
-pub enum_known-m : goal.enum_known-m
-enum_known-m c = search (pairs, rules)
-
-pub enum_told-1 : goal.enum_told-1
-enum_told-1 c = search (pairs, rules)
-
-pub returns-in_default : goal.returns-in_default
-returns-in_default c = search (pairs, rules)
-
-pub mode_of-o-requires : goal.mode_of-o-requires
-mode_of-o-requires c = search (pairs, rules)
-
-pub enum_known-o : goal.enum_known-o
-enum_known-o c = search (pairs, rules)
-
-pub enum_told-in_default-o : goal.enum_told-in_default-o
-enum_told-in_default-o c = search (pairs, rules)
-
-pub returns-in_default-o : goal.returns-in_default-o
-returns-in_default-o c = search (pairs, rules)
+pub returns-in_err-second : goal.returns-in_err-second
+returns-in_err-second c =
+    let p = err_from_is_err_and c.from_residual-in_err-second.result c.from_residual-in_err-second.ensures.1 in
+    rw p.1 (second_none _ _ _ c.in_ok-compat.ensures c.in_err-second.ensures)
 
 pub returns : goal.returns
-returns c = search (pairs, rules)
+returns c = both-modes _ _ _ c.in_ok-compat.ensures _ c.in_ok-second.ensures

@@ -1,18 +1,5 @@
-use Rattle.memory.proofs.Padding.{paddings}
-use borrow.Author.Rules.{rules}
+use Rattle.memory.proofs.Padding.{padded}
 use Rattle.memory.proofs.put_padded.Goals as goal
 
-pub put_bytes-end-requires : goal.put_bytes-end-requires
-put_bytes-end-requires c = search (paddings, rules)
-
-pub overflow_sub-size : goal.overflow_sub-size
-overflow_sub-size c = search (paddings, rules)
-
-pub clear-requires : goal.clear-requires
-clear-requires c = search (paddings, rules)
-
-pub shape_of-s : goal.shape_of-s
-shape_of-s c = search (paddings, rules)
-
 pub returns : goal.returns
-returns c = search (paddings, rules)
+returns c = padded _ _ _ _ _ _ _ c.requires.w_len_bound c.requires.size_in_bounds c.put_bytes-end.ensures c.clear.ensures

@@ -1,24 +1,11 @@
-use Rattle.normal_text.proofs.Calls.{calls}
-use borrow.Author.Rules.{rules}
+use Rattle.normal_text.proofs.Calls.{call-refused, call-accepts, call-room, call-bytes}
 use Rattle.normal_text.proofs.normal_text.Goals as goal
 
-pub normal_text_len-r-requires : goal.normal_text_len-r-requires
-normal_text_len-r-requires c = search (calls, rules)
-
-pub enum_known-r : goal.enum_known-r
-enum_known-r c = search (calls, rules)
-
-pub enum_told-1 : goal.enum_told-1
-enum_told-1 c = search (calls, rules)
-
-pub returns-in_default : goal.returns-in_default
-returns-in_default c = search (calls, rules)
+pub returns-in_err-len-clause-bytes : goal.returns-in_err-len-clause-bytes
+returns-in_err-len-clause-bytes c = call-refused _ _ _ _ c.in_err-len.ensures
 
 pub put_text-requires : goal.put_text-requires
-put_text-requires c = search (calls, rules)
+put_text-requires c = record { accepts = call-accepts _ _ _ _ c.in_ok-len.ensures; s_in_bounds = call-room _ _ _ _ c.in_ok-len.ensures }
 
-pub shape_of-out : goal.shape_of-out
-shape_of-out c = search (calls, rules)
-
-pub returns : goal.returns
-returns c = search (calls, rules)
+pub returns-clause-bytes : goal.returns-clause-bytes
+returns-clause-bytes c = call-bytes _ _ _ _ c.in_ok-len.ensures _ c.put_text.ensures.bytes

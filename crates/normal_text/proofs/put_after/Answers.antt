@@ -1,15 +1,5 @@
-use Rattle.normal_text.proofs.Steps.{afters}
-use borrow.Author.Rules.{rules}
+use Rattle.normal_text.proofs.Spelled.{one_put}
 use Rattle.normal_text.proofs.put_after.Goals as goal
 
-pub put_gap-i-requires : goal.put_gap-i-requires
-put_gap-i-requires c = search (afters, rules)
-
-pub put_comparator-requires : goal.put_comparator-requires
-put_comparator-requires c = search (afters, rules)
-
-pub shape_of-out : goal.shape_of-out
-shape_of-out c = search (afters, rules)
-
 pub returns : goal.returns
-returns c = search (afters, rules)
+returns c = one_put _ _ c.in-Some.is c.spelling.ensures c.put_bytes-i.ensures c.put_comparator-j.ensures c.put_identifiers.ensures

@@ -1,42 +1,18 @@
-use Rattle.normal_text.proofs.Texts.{counting}
-use borrow.Author.Rules.{rules}
+use Rattle.std.proofs.Common.{arith}
+use Rattle.normal_text.proofs.Texts.{counting_room, counting_fits, counting_fewer, counting_step, counting_end}
 use Rattle.normal_text.proofs.text_len.Goals as goal
 
-pub loop-compat-init : goal.loop-compat-init
-loop-compat-init c = search (counting, rules)
-
-pub goes_on-requires : goal.goes_on-requires
-goes_on-requires c = search (counting, rules)
-
-pub overflow_sub-from : goal.overflow_sub-from
-overflow_sub-from c = search (counting, rules)
-
-pub slice_bounds-next-count : goal.slice_bounds-next-count
-slice_bounds-next-count c = search (counting, rules)
-
-pub slice_bounds-next-start : goal.slice_bounds-next-start
-slice_bounds-next-start c = search (counting, rules)
-
-pub slice_bounds-next-end : goal.slice_bounds-next-end
-slice_bounds-next-end c = search (counting, rules)
-
-pub next-x-requires : goal.next-x-requires
-next-x-requires c = search (counting, rules)
-
 pub step_len-len-requires : goal.step_len-len-requires
-step_len-len-requires c = search (counting, rules)
+step_len-len-requires c = counting_room c.loop-at.invariant c.in-Some.is c.in-Some-next.ensures
 
 pub overflow_add-len : goal.overflow_add-len
-overflow_add-len c = search (counting, rules)
+overflow_add-len c = omega (arith, counting_fits c.loop-at.invariant c.in-Some.is c.in-Some-next.ensures c.step_len-len.ensures)
 
-pub gap_behind-gap-requires : goal.gap_behind-gap-requires
-gap_behind-gap-requires c = search (counting, rules)
+pub loop-at-smaller : goal.loop-at-smaller
+loop-at-smaller c = counting_fewer c.loop-at.invariant c.in-Some.is c.in-Some-next.ensures
 
-pub loop-compat-smaller : goal.loop-compat-smaller
-loop-compat-smaller c = search (counting, rules)
-
-pub loop-compat-preserved : goal.loop-compat-preserved
-loop-compat-preserved c = search (counting, rules)
+pub loop-at-preserved : goal.loop-at-preserved
+loop-at-preserved c = counting_step c.loop-at.invariant c.in-Some.is c.in-Some-next.ensures c.step_len-len.ensures c.after_step-gap.ensures
 
 pub returns : goal.returns
-returns c = search (counting, rules)
+returns c = counting_end c.loop-at.invariant c.in_default.not-Some

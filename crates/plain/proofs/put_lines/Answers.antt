@@ -8,8 +8,5 @@ put_line-at-requires c = search (both-lines, rules)
 pub put_line-requires : goal.put_line-requires
 put_line-requires c = search (both-lines, rules)
 
-pub shape_of-out : goal.shape_of-out
-shape_of-out c = search (both-lines, rules)
-
 pub returns : goal.returns
 returns c = search (both-lines, rules)

@@ -2,14 +2,8 @@ use Rattle.plain.proofs.Answering.{refusals}
 use borrow.Author.Rules.{rules}
 use Rattle.plain.proofs.put_refusal.Goals as goal
 
-pub number-requires : goal.number-requires
-number-requires c = search (refusals, rules)
-
 pub put_refused-requires : goal.put_refused-requires
-put_refused-requires c = search (refusals, rules)
-
-pub shape_of-out : goal.shape_of-out
-shape_of-out c = search (refusals, rules)
+put_refused-requires c = search (refusals, c.from.ensures, rules)
 
 pub returns : goal.returns
-returns c = search (refusals, rules)
+returns c = search (refusals, c.from.ensures, rules)

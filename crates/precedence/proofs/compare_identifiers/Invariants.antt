@@ -1,10 +1,9 @@
+use Rattle.std.proofs.Common.{length}
 use Rattle.precedence.proofs.Comparing.{Comparing}
-use lib.ListN.{length}
-use Prim.Native.Nat.{◌-◌}
 use Rattle.precedence.proofs.compare_identifiers.Given as goal
 
-abbrev pub invariant-loop-i : goal.invariant-loop-i
-invariant-loop-i l = Comparing l.v l.s l.i l.j
+abbrev pub invariant-loop-a : goal.invariant-loop-a
+invariant-loop-a l = Comparing l.fn.v l.fn.s l.v_left l.s_left
 
-abbrev pub decreases-loop-i : goal.decreases-loop-i
-decreases-loop-i l = length l.v - l.i
+abbrev pub decreases-loop-a : goal.decreases-loop-a
+decreases-loop-a l = length l.v_left

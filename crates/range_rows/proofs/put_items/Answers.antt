@@ -1,18 +1,22 @@
-use Rattle.range_rows.proofs.Items.{listing}
-use borrow.Author.Rules.{rules}
+use Rattle.range_rows.proofs.Items.{listing_room, listing_space, listing_rows, listing_names, listing_behind, listing_next, listing_fewer}
 use Rattle.range_rows.proofs.put_items.Goals as goal
 
-pub put_item-r-requires : goal.put_item-r-requires
-put_item-r-requires c = search (listing, rules)
+pub put_step-written-requires-clause-words_room : goal.put_step-written-requires-clause-words_room
+put_step-written-requires-clause-words_room c = listing_room c.loop-left.invariant c.item_of-item.ensures
 
-pub put_further-requires : goal.put_further-requires
-put_further-requires c = search (listing, rules)
+pub put_step-written-requires-clause-ids_room : goal.put_step-written-requires-clause-ids_room
+put_step-written-requires-clause-ids_room c = listing_space c.loop-left.invariant
 
-pub shape_of-words : goal.shape_of-words
-shape_of-words c = search (listing, rules)
+pub returns-in_default : goal.returns-in_default
+returns-in_default c =
+    record {
+      put = listing_rows c.loop-left.invariant c.in_default.ensures c.item_of-item.ensures c.put_step-written.ensures.words;
+      ids = listing_names c.loop-left.invariant c.in_default.ensures c.put_step-written.ensures.ids;
+      behind = listing_behind c.loop-left.invariant c.in_default.ensures;
+    }
 
-pub shape_of-ids : goal.shape_of-ids
-shape_of-ids c = search (listing, rules)
+pub unreachable-requires : goal.unreachable-requires
+unreachable-requires c = listing_next c.loop-left.invariant c.in-Some.ensures c.in_default-next.ensures
 
-pub returns : goal.returns
-returns c = record { put = search (listing, rules); ids = search (listing, rules); behind = search (listing, rules) }
+pub loop-left-smaller : goal.loop-left-smaller
+loop-left-smaller c = listing_fewer c.loop-left.invariant c.in-Some.ensures c.in-Some-next.ensures

@@ -1,45 +1,32 @@
-use Rattle.range_rows.proofs.Hyphens.{ranging}
-use borrow.Author.Rules.{rules}
+use Rattle.std.proofs.Common.{refl}
+use Rattle.range_rows.proofs.Hyphens.{hyphen_next, hyphen_within, hyphen_least, hyphen_behind, hyphen_room, hyphen_more, hyphen_put, hyphen_space, hyphen_names_more, hyphen_names}
 use Rattle.range_rows.proofs.put_range.Goals as goal
 
-pub is_side-requires : goal.is_side-requires
-is_side-requires c = search (ranging, rules)
+pub unreachable-requires : goal.unreachable-requires
+unreachable-requires c = hyphen_next c.requires c.in-Some.ensures c.in_default-next.ensures
 
-pub overflow_sub-from : goal.overflow_sub-from
-overflow_sub-from c = search (ranging, rules)
+pub item_of-item-requires : goal.item_of-item-requires
+item_of-item-requires c =
+    record { within = hyphen_within c.requires c.in-Some.ensures c.in-Some-next.ensures; least = hyphen_least c.requires c.in-Some.ensures c.in-Some-next.ensures }
 
-pub slice_bounds-next-count : goal.slice_bounds-next-count
-slice_bounds-next-count c = search (ranging, rules)
+pub put_step-written-requires : goal.put_step-written-requires
+put_step-written-requires c =
+    record {
+      words_room = hyphen_room c.requires c.in-Some.ensures c.in-Some-next.ensures c.item_of-item.ensures;
+      ids_room = hyphen_space c.requires c.in-Some.ensures c.in-Some-next.ensures;
+    }
 
-pub slice_bounds-next-start : goal.slice_bounds-next-start
-slice_bounds-next-start c = search (ranging, rules)
-
-pub slice_bounds-next-end : goal.slice_bounds-next-end
-slice_bounds-next-end c = search (ranging, rules)
-
-pub next-y-requires : goal.next-y-requires
-next-y-requires c = search (ranging, rules)
-
-pub put_hyphen-requires : goal.put_hyphen-requires
-put_hyphen-requires c = search (ranging, rules)
-
-pub shape_of-words-then-is_side : goal.shape_of-words-then-is_side
-shape_of-words-then-is_side c = search (ranging, rules)
-
-pub shape_of-ids-then-is_side : goal.shape_of-ids-then-is_side
-shape_of-ids-then-is_side c = search (ranging, rules)
-
-pub returns-then-is_side : goal.returns-then-is_side
-returns-then-is_side c = record { put = search (ranging, rules); ids = search (ranging, rules); behind = search (ranging, rules) }
-
-pub put_items-requires : goal.put_items-requires
-put_items-requires c = record { at_range = search (ranging, rules); stage_value = search (ranging, rules) }
-
-pub shape_of-words : goal.shape_of-words
-shape_of-words c = search (ranging, rules)
-
-pub shape_of-ids : goal.shape_of-ids
-shape_of-ids c = search (ranging, rules)
+pub put_step-requires : goal.put_step-requires
+put_step-requires c =
+    record {
+      words_room = hyphen_more c.requires c.in-Some.ensures c.in-Some-next.ensures c.item_of-item.ensures c.put_step-written.ensures.words refl;
+      ids_room = hyphen_names_more c.requires c.in-Some.ensures c.in-Some-next.ensures c.put_step-written.ensures.ids refl;
+    }
 
 pub returns : goal.returns
-returns c = search (ranging, rules)
+returns c =
+    record {
+      put = hyphen_put c.requires c.in-Some.ensures c.in-Some-next.ensures c.item_of-item.ensures c.put_step-written.ensures.words c.put_step.ensures.words;
+      ids = hyphen_names c.requires c.in-Some.ensures c.in-Some-next.ensures c.put_step-written.ensures.ids c.put_step.ensures.ids;
+      behind = hyphen_behind c.requires c.in-Some.ensures c.in-Some-next.ensures;
+    }

@@ -1,75 +1,32 @@
-use Rattle.range_rows.proofs.Ranges.{putting, put-words, put-ids, put_count}
-use borrow.Author.Rules.{rules}
+use Rattle.std.proofs.Common.{ap, arith}
+use Rattle.walk.specs.Views.{next_is}
+use Rattle.passes.proofs.Passing.{goes_stage}
+use Rattle.range_rows.proofs.Ranges.{behind_next, putting_start, putting_here, putting_words, putting_ids, putting_more, putting_rows, putting_names}
 use Rattle.range_rows.proofs.put_ranges.Goals as goal
 
-pub loop-compat-init : goal.loop-compat-init
-loop-compat-init c = search (putting, rules)
+pub loop-stage-init : goal.loop-stage-init
+loop-stage-init c = putting_start _ _ _ _ _ c.requires.first_value c.requires.writable
 
-pub offset_bounds-words-at : goal.offset_bounds-words-at
-offset_bounds-words-at c = search (putting, rules)
+pub put_range-end-requires : goal.put_range-end-requires
+put_range-end-requires c = putting_here c.loop-stage.invariant
 
-pub slice_bounds-put_range-count : goal.slice_bounds-put_range-count
-slice_bounds-put_range-count c = search (putting, rules)
+pub returns-in_default : goal.returns-in_default
+returns-in_default c =
+    record {
+      words_after = putting_rows c.loop-stage.invariant c.put_range-end.ensures.behind (ap (λ o. (next_is o).0) c.in_default.is) c.put_range-end.ensures.put;
+      ids = putting_names c.loop-stage.invariant c.put_range-end.ensures.behind (ap (λ o. (next_is o).0) c.in_default.is) c.put_range-end.ensures.ids;
+    }
 
-pub slice_bounds-put_range-start : goal.slice_bounds-put_range-start
-slice_bounds-put_range-start c = search (putting, rules)
+pub unreachable-requires : goal.unreachable-requires
+unreachable-requires c = behind_next (rw c.in-Some.is at c.put_range-end.ensures.behind) (goes_stage c.in-Some.stage) c.in_default-next.ensures
 
-pub slice_bounds-put_range-end : goal.slice_bounds-put_range-end
-slice_bounds-put_range-end c = search (putting, rules)
+pub overflow_add-written : goal.overflow_add-written
+overflow_add-written c = omega (arith, putting_words c.loop-stage.invariant c.put_range-end.ensures.put)
 
-pub offset_bounds-ids-to : goal.offset_bounds-ids-to
-offset_bounds-ids-to c = search (putting, rules)
+pub overflow_add-written-in-loop-stage : goal.overflow_add-written-in-loop-stage
+overflow_add-written-in-loop-stage c = omega (arith, putting_ids c.loop-stage.invariant c.put_range-end.ensures.ids)
 
-pub slice_bounds-put_range-count-in-loop-compat : goal.slice_bounds-put_range-count-in-loop-compat
-slice_bounds-put_range-count-in-loop-compat c = search (putting, rules)
-
-pub slice_bounds-put_range-start-in-loop-compat : goal.slice_bounds-put_range-start-in-loop-compat
-slice_bounds-put_range-start-in-loop-compat c = search (putting, rules)
-
-pub slice_bounds-put_range-end-in-loop-compat : goal.slice_bounds-put_range-end-in-loop-compat
-slice_bounds-put_range-end-in-loop-compat c = search (putting, rules)
-
-pub put_range-r-requires : goal.put_range-r-requires
-put_range-r-requires c = search (putting, rules)
-
-pub goes_on-requires : goal.goes_on-requires
-goes_on-requires c = search (putting, rules)
-
-pub shape_of-words-then-not-goes_on : goal.shape_of-words-then-not-goes_on
-shape_of-words-then-not-goes_on c = search (putting, rules)
-
-pub shape_of-ids-then-not-goes_on : goal.shape_of-ids-then-not-goes_on
-shape_of-ids-then-not-goes_on c = search (putting, rules)
-
-pub returns-then-not-goes_on : goal.returns-then-not-goes_on
-returns-then-not-goes_on c = record { words_after = search (putting, rules); ids = search (putting, rules) }
-
-pub overflow_add-range : goal.overflow_add-range
-overflow_add-range c = search (put_count, rules)
-
-pub overflow_add-at : goal.overflow_add-at
-overflow_add-at c = search (put-words, rules)
-
-pub overflow_add-to : goal.overflow_add-to
-overflow_add-to c = search (put-ids, rules)
-
-pub overflow_sub-from : goal.overflow_sub-from
-overflow_sub-from c = search (putting, rules)
-
-pub slice_bounds-next-count : goal.slice_bounds-next-count
-slice_bounds-next-count c = search (putting, rules)
-
-pub slice_bounds-next-start : goal.slice_bounds-next-start
-slice_bounds-next-start c = search (putting, rules)
-
-pub slice_bounds-next-end : goal.slice_bounds-next-end
-slice_bounds-next-end c = search (putting, rules)
-
-pub next-x-requires : goal.next-x-requires
-next-x-requires c = search (putting, rules)
-
-pub loop-compat-smaller : goal.loop-compat-smaller
-loop-compat-smaller c = search (putting, rules)
-
-pub loop-compat-preserved : goal.loop-compat-preserved
-loop-compat-preserved c = search (putting, rules)
+pub loop-stage-preserved : goal.loop-stage-preserved
+loop-stage-preserved c =
+    putting_more c.loop-stage.invariant c.put_range-end.ensures.put c.put_range-end.ensures.ids (rw c.in-Some.is at c.put_range-end.ensures.behind) (goes_stage c.in-Some.stage)
+    c.in-Some-next.ensures

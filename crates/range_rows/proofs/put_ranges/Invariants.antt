@@ -1,11 +1,12 @@
-use Rattle.range_rows.proofs.Ranges.{Putting}
-use Rattle.range.specs.Views.{compat_of}
 use lib.ListN.{length}
 use Prim.Native.Nat.{◌-◌}
+use Rattle.range.specs.Views.{compat_of}
+use Rattle.walk.specs.Views.{step_is}
+use Rattle.range_rows.proofs.Ranges.{Putting}
 use Rattle.range_rows.proofs.put_ranges.Given as goal
 
-abbrev pub invariant-loop-compat : goal.invariant-loop-compat
-invariant-loop-compat l = Putting (compat_of l.compat) l.s l.initial.words l.initial.ids l.words l.ids l.range l.at l.to l.x
+abbrev pub invariant-loop-stage : goal.invariant-loop-stage
+invariant-loop-stage l = Putting (compat_of l.compat) l.s l.initial.words l.initial.ids l.words l.ids l.range l.written.words l.written.ids (step_is l.x)
 
-abbrev pub decreases-loop-compat : goal.decreases-loop-compat
-decreases-loop-compat l = length l.s - l.range
+abbrev pub decreases-loop-stage : goal.decreases-loop-stage
+decreases-loop-stage l = length l.s - l.range

@@ -1,57 +1,23 @@
-use Rattle.rangeset.proofs.Measuring.{measuring}
-use borrow.Author.Rules.{rules}
+use Rattle.std.proofs.Common.{◌∙◌, ap, sym, arith}
+use Rattle.walk.specs.Views.{step_is, step_in}
+use Rattle.rangeset.proofs.Measuring.{measured_first, code_step, code_few, code_fewer, code_stuck}
 use Rattle.rangeset.proofs.measure.Goals as goal
 
-pub comparator_count-comparators-requires : goal.comparator_count-comparators-requires
-comparator_count-comparators-requires c = search (measuring, rules)
+pub loop-at-init : goal.loop-at-init
+loop-at-init c =
+    measured_first _ _ (step_is c.args.first.now) c.requires.first_value _ c.comparator_count-comparators.ensures.value c.comparator_count-comparators.ensures.small _
+    c.is_over-over.ensures
 
-pub loop-compat-init : goal.loop-compat-init
-loop-compat-init c = search (measuring, rules)
-
-pub goes_on-requires : goal.goes_on-requires
-goes_on-requires c = search (measuring, rules)
-
-pub overflow_sub-at : goal.overflow_sub-at
-overflow_sub-at c = search (measuring, rules)
-
-pub slice_bounds-next-count : goal.slice_bounds-next-count
-slice_bounds-next-count c = search (measuring, rules)
-
-pub slice_bounds-next-start : goal.slice_bounds-next-start
-slice_bounds-next-start c = search (measuring, rules)
-
-pub slice_bounds-next-end : goal.slice_bounds-next-end
-slice_bounds-next-end c = search (measuring, rules)
-
-pub next-x-requires : goal.next-x-requires
-next-x-requires c = search (measuring, rules)
-
-pub opened-ranges-requires : goal.opened-ranges-requires
-opened-ranges-requires c = search (measuring, rules)
-
-pub overflow_add-ranges : goal.overflow_add-ranges
-overflow_add-ranges c = search (measuring, rules)
-
-pub comparator_count-comparators-requires-in-loop-compat : goal.comparator_count-comparators-requires-in-loop-compat
-comparator_count-comparators-requires-in-loop-compat c = search (measuring, rules)
-
-pub overflow_add-comparators : goal.overflow_add-comparators
-overflow_add-comparators c = search (measuring, rules)
+pub returns-in_err-x : goal.returns-in_err-x
+returns-in_err-x c = c.from_residual.ensures ∙ code_stuck _ _ _ _ _ _ _ _ c.in-Some.stage c.in-Some.left c.in-Some.is c.loop-at.invariant (ap step_in (sym c.in_err-x.was) ∙ c.next.ensures)
 
 pub overflow_add-identifiers : goal.overflow_add-identifiers
-overflow_add-identifiers c = search (measuring, rules)
+overflow_add-identifiers c = let k = code_few _ _ _ _ _ _ _ _ c.in-Some.stage c.in-Some.left c.in-Some.is c.loop-at.invariant (step_is c.in_ok-x.x) c.in_ok-x.ensures in let l = c.requires.s_len_bound in omega arith
 
-pub loop-compat-smaller : goal.loop-compat-smaller
-loop-compat-smaller c = search (measuring, rules)
+pub loop-at-smaller : goal.loop-at-smaller
+loop-at-smaller c = code_fewer _ _ _ _ _ _ _ _ c.in-Some.stage c.in-Some.left c.in-Some.is c.loop-at.invariant (step_is c.in_ok-x.x) c.in_ok-x.ensures
 
-pub loop-compat-preserved : goal.loop-compat-preserved
-loop-compat-preserved c = search (measuring, rules)
-
-pub is_end-requires : goal.is_end-requires
-is_end-requires c = search (measuring, rules)
-
-pub returns-then-is_end : goal.returns-then-is_end
-returns-then-is_end c = search (measuring, rules)
-
-pub returns : goal.returns
-returns c = search (measuring, rules)
+pub loop-at-preserved : goal.loop-at-preserved
+loop-at-preserved c =
+    code_step _ _ _ _ _ _ _ _ c.in-Some.stage c.in-Some.left c.in-Some.is c.loop-at.invariant (step_is c.in_ok-x.x) c.in_ok-x.ensures _ _ c.opened-ranges.ensures.value
+    c.opened-ranges.ensures.small c.comparator_count-comparators-in-Some.ensures.value c.comparator_count-comparators-in-Some.ensures.small _ c.is_over-over-in-Some.ensures

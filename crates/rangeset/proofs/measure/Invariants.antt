@@ -1,10 +1,11 @@
 use Rattle.rangeset.proofs.Measuring.{Measured}
 use Rattle.passes.proofs.Turn.{ahead}
 use Rattle.range.specs.Views.{compat_of}
+use Rattle.walk.specs.Views.{next_is}
 use Rattle.rangeset.proofs.measure.Given as goal
 
-abbrev pub invariant-loop-compat : goal.invariant-loop-compat
-invariant-loop-compat l = Measured (compat_of l.compat) l.s l.ranges l.comparators l.identifiers l.large l.over l.stage l.left
+abbrev pub invariant-loop-at : goal.invariant-loop-at
+invariant-loop-at l = Measured (compat_of l.compat) l.s l.ranges l.comparators l.identifiers l.large l.over (next_is l.at)
 
-abbrev pub decreases-loop-compat : goal.decreases-loop-compat
-decreases-loop-compat l = ahead l.stage l.left
+abbrev pub decreases-loop-at : goal.decreases-loop-at
+decreases-loop-at l = ahead (next_is l.at)

@@ -1,10 +1,9 @@
+use Rattle.std.proofs.Common.{length}
 use Rattle.rows.proofs.Storing.{Storing}
-use lib.ListN.{length}
-use Prim.Native.Nat.{◌-◌}
 use Rattle.rows.proofs.put_identifiers.Given as goal
 
-abbrev pub invariant-loop-from : goal.invariant-loop-from
-invariant-loop-from l = Storing l.s l.place l.initial.ids l.ids l.from l.at
+abbrev pub invariant-loop-identifier : goal.invariant-loop-identifier
+invariant-loop-identifier l = Storing l.s l.len l.initial.ids l.ids l.left l.at
 
-abbrev pub decreases-loop-from : goal.decreases-loop-from
-decreases-loop-from l = length l.s - l.from
+abbrev pub decreases-loop-identifier : goal.decreases-loop-identifier
+decreases-loop-identifier l = length l.left

@@ -1,36 +1,54 @@
-use Rattle.shelf.proofs.AddLaws.{adds}
-use borrow.Author.Rules.{rules}
+use Rattle.std.proofs.lemmas.Result.{err_from_is_err_and}
+use Rattle.range.specs.Views.{compat_of}
+use Rattle.entries.proofs.Counting.{OfShelf, of_shelf}
+use Rattle.shelf.proofs.AddLaws.{Enterable, enterable, text_within, not_added, unread, there, full, few, added}
 use Rattle.shelf.proofs.add.Goals as goal
 
-pub slice_bounds-count_entries-count : goal.slice_bounds-count_entries-count
-slice_bounds-count_entries-count c = search (adds, rules)
+pub returns-in_err-entries : goal.returns-in_err-entries
+returns-in_err-entries c =
+    let p = err_from_is_err_and c.from_residual.result c.from_residual.ensures.1 in
+    let q = not_added c.args.code (compat_of c.args.compat) c.args.text.now c.args.shelf.now c.of.result c.of.ensures _ c.in_err-entries.was in
+    record { answer = rw (p.1, p.2, q); bytes = rw q }
 
-pub slice_bounds-count_entries-start : goal.slice_bounds-count_entries-start
-slice_bounds-count_entries-start c = search (adds, rules)
+pub returns-in_err-set : goal.returns-in_err-set
+returns-in_err-set c =
+    let e = c.in_ok-entries.entries in
+    let h : OfShelf c.args.shelf.now e = of_shelf c.args.shelf.now c.of.result c.of.ensures e c.in_ok-entries.was in
+    let p = err_from_is_err_and c.from_residual-in_err-set.result c.from_residual-in_err-set.ensures.1 in
+    let q = unread c.args.code (compat_of c.args.compat) c.args.text.now c.args.shelf.now e h _ c.in_err-set.ensures.answer in
+    record { answer = rw (p.1, p.2, q); bytes = rw q }
 
-pub slice_bounds-count_entries-end : goal.slice_bounds-count_entries-end
-slice_bounds-count_entries-end c = search (adds, rules)
+pub returns-then-is_some : goal.returns-then-is_some
+returns-then-is_some c =
+    let e = c.in_ok-entries.entries in
+    let h : OfShelf c.args.shelf.now e = of_shelf c.args.shelf.now c.of.result c.of.ensures e c.in_ok-entries.was in
+    let r : Enterable (compat_of c.args.compat) c.args.text.now = enterable (compat_of c.args.compat) c.args.text.now c.in_ok-set.set.counts c.in_ok-set.ensures.answer in
+    let q = there c.args.code (compat_of c.args.compat) c.args.text.now c.args.shelf.now e h r c.find_code.result c.find_code.ensures c.is_some.result c.is_some.ensures c.if-is_some.true in
+    record { answer = rw q; bytes = rw q }
 
-pub count_entries-c-requires : goal.count_entries-c-requires
-count_entries-c-requires c = search (adds, rules)
+pub returns-then-n-eq-CAPACITY : goal.returns-then-n-eq-CAPACITY
+returns-then-n-eq-CAPACITY c =
+    let e = c.in_ok-entries.entries in
+    let h : OfShelf c.args.shelf.now e = of_shelf c.args.shelf.now c.of.result c.of.ensures e c.in_ok-entries.was in
+    let r : Enterable (compat_of c.args.compat) c.args.text.now = enterable (compat_of c.args.compat) c.args.text.now c.in_ok-set.set.counts c.in_ok-set.ensures.answer in
+    let q = full c.args.code (compat_of c.args.compat) c.args.text.now c.args.shelf.now e h r c.find_code.result c.find_code.ensures c.is_some.result c.is_some.ensures c.if-is_some.false c.if-n-eq-CAPACITY.true in
+    record { answer = rw q; bytes = rw q }
 
-pub enum_told-1 : goal.enum_told-1
-enum_told-1 c = search (adds, rules)
+pub add_at-requires : goal.add_at-requires
+add_at-requires c =
+    let e = c.in_ok-entries.entries in
+    let h : OfShelf c.args.shelf.now e = of_shelf c.args.shelf.now c.of.result c.of.ensures e c.in_ok-entries.was in
+    let r : Enterable (compat_of c.args.compat) c.args.text.now = enterable (compat_of c.args.compat) c.args.text.now c.in_ok-set.set.counts c.in_ok-set.ensures.answer in
+    record {
+      counted = h.counted;
+      n_lt_capacity = few c.args.code (compat_of c.args.compat) c.args.text.now c.args.shelf.now e h r c.find_code.result c.find_code.ensures c.is_some.result c.is_some.ensures c.if-is_some.false c.if-n-eq-CAPACITY.false;
+      text_len_bound = text_within (compat_of c.args.compat) c.args.text.now r;
+    }
 
-pub enum_known-c : goal.enum_known-c
-enum_known-c c = search (adds, rules)
-
-pub add_counted-requires : goal.add_counted-requires
-add_counted-requires c = search (adds, rules)
-
-pub shape_of-shelf-in-NotShelf : goal.shape_of-shelf-in-NotShelf
-shape_of-shelf-in-NotShelf c = search (adds, rules)
-
-pub returns-in-NotShelf : goal.returns-in-NotShelf
-returns-in-NotShelf c = search (adds, rules)
-
-pub shape_of-shelf-in-Entries : goal.shape_of-shelf-in-Entries
-shape_of-shelf-in-Entries c = search (adds, rules)
-
-pub returns-in-Entries : goal.returns-in-Entries
-returns-in-Entries c = search (adds, rules)
+pub returns : goal.returns
+returns c =
+    let e = c.in_ok-entries.entries in
+    let h : OfShelf c.args.shelf.now e = of_shelf c.args.shelf.now c.of.result c.of.ensures e c.in_ok-entries.was in
+    let r : Enterable (compat_of c.args.compat) c.args.text.now = enterable (compat_of c.args.compat) c.args.text.now c.in_ok-set.set.counts c.in_ok-set.ensures.answer in
+    let q = added c.args.code (compat_of c.args.compat) c.args.text.now c.args.shelf.now e h r c.find_code.result c.find_code.ensures c.is_some.result c.is_some.ensures c.if-is_some.false c.if-n-eq-CAPACITY.false c.bounds_of.result (rw (c.in_ok-set.ensures.of.0, c.in_ok-set.ensures.of.1) at c.bounds_of.ensures) in
+    record { answer = rw q; bytes = rw q c.add_at.ensures }

@@ -1,21 +1,23 @@
-use Rattle.shelf.proofs.ListLaws.{lists}
-use borrow.Author.Rules.{rules}
+use Rattle.std.proofs.lemmas.Result.{err_from_is_err_and}
+use Rattle.entries.proofs.Counting.{OfShelf, of_shelf}
+use Rattle.shelf.proofs.ListLaws.{missing, within, listed}
 use Rattle.shelf.proofs.list.Goals as goal
 
-pub count_entries-c-requires : goal.count_entries-c-requires
-count_entries-c-requires c = search (lists, rules)
+pub returns-in_err-k : goal.returns-in_err-k
+returns-in_err-k c =
+    let e = c.in_ok-entries.entries in
+    let h : OfShelf c.args.shelf.now e = of_shelf c.args.shelf.now c.of.result c.of.ensures e c.in_ok-entries.was in
+    let p = err_from_is_err_and c.from_residual-in_err-k.result c.from_residual-in_err-k.ensures.1 in
+    rw (p.1, p.2) (missing c.args.shelf.now c.args.code e h c.find_code.result c.find_code.ensures c.in_err-k.field-0.0 c.in_err-k.ensures.value)
 
-pub enum_told-1 : goal.enum_told-1
-enum_told-1 c = search (lists, rules)
+pub part_at-requires : goal.part_at-requires
+part_at-requires c =
+    let e = c.in_ok-entries.entries in
+    let h : OfShelf c.args.shelf.now e = of_shelf c.args.shelf.now c.of.result c.of.ensures e c.in_ok-entries.was in
+    within c.args.shelf.now c.args.code e h c.find_code.result c.find_code.ensures c.in_ok-k.k c.in_ok-k.ensures.value
 
-pub enum_known-c : goal.enum_known-c
-enum_known-c c = search (lists, rules)
-
-pub list_counted-requires : goal.list_counted-requires
-list_counted-requires c = search (lists, rules)
-
-pub returns-in-NotShelf : goal.returns-in-NotShelf
-returns-in-NotShelf c = search (lists, rules)
-
-pub returns-in-Entries : goal.returns-in-Entries
-returns-in-Entries c = search (lists, rules)
+pub returns : goal.returns
+returns c =
+    let e = c.in_ok-entries.entries in
+    let h : OfShelf c.args.shelf.now e = of_shelf c.args.shelf.now c.of.result c.of.ensures e c.in_ok-entries.was in
+    listed c.args.shelf.now c.args.code e h c.find_code.result c.find_code.ensures c.in_ok-k.k c.in_ok-k.ensures.value c.part_at.result c.part_at.ensures

@@ -1,36 +1,31 @@
-use Rattle.shelf.proofs.ChangeLaws.{removes}
-use borrow.Author.Rules.{rules}
+use Rattle.std.proofs.lemmas.Result.{err_from_is_err_and}
+use Rattle.entries.proofs.Counting.{OfShelf, of_shelf}
+use Rattle.shelf.proofs.ChangeLaws.{not_removed, missing, below, removed}
 use Rattle.shelf.proofs.remove.Goals as goal
 
-pub slice_bounds-count_entries-count : goal.slice_bounds-count_entries-count
-slice_bounds-count_entries-count c = search (removes, rules)
+pub returns-in_err-entries : goal.returns-in_err-entries
+returns-in_err-entries c =
+    let p = err_from_is_err_and c.from_residual.result c.from_residual.ensures.1 in
+    let q = not_removed c.args.shelf.now c.args.code c.of.result c.of.ensures _ c.in_err-entries.was in
+    record { answer = rw (p.1, p.2, q); bytes = rw q }
 
-pub slice_bounds-count_entries-start : goal.slice_bounds-count_entries-start
-slice_bounds-count_entries-start c = search (removes, rules)
+pub returns-in_err-k : goal.returns-in_err-k
+returns-in_err-k c =
+    let e = c.in_ok-entries.entries in
+    let h : OfShelf c.args.shelf.now e = of_shelf c.args.shelf.now c.of.result c.of.ensures e c.in_ok-entries.was in
+    let p = err_from_is_err_and c.from_residual-in_err-k.result c.from_residual-in_err-k.ensures.1 in
+    let q = missing c.args.shelf.now c.args.code e h c.find_code.result c.find_code.ensures _ c.in_err-k.ensures.value in
+    record { answer = rw (p.1, p.2, q); bytes = rw q }
 
-pub slice_bounds-count_entries-end : goal.slice_bounds-count_entries-end
-slice_bounds-count_entries-end c = search (removes, rules)
+pub remove_at-requires : goal.remove_at-requires
+remove_at-requires c =
+    let e = c.in_ok-entries.entries in
+    let h : OfShelf c.args.shelf.now e = of_shelf c.args.shelf.now c.of.result c.of.ensures e c.in_ok-entries.was in
+    record { counted = h.counted; k_lt_n = below c.args.shelf.now c.args.code e h c.find_code.result c.find_code.ensures c.in_ok-k.k c.in_ok-k.ensures.value }
 
-pub count_entries-c-requires : goal.count_entries-c-requires
-count_entries-c-requires c = search (removes, rules)
-
-pub enum_told-1 : goal.enum_told-1
-enum_told-1 c = search (removes, rules)
-
-pub enum_known-c : goal.enum_known-c
-enum_known-c c = search (removes, rules)
-
-pub remove_counted-requires : goal.remove_counted-requires
-remove_counted-requires c = search (removes, rules)
-
-pub shape_of-shelf-in-NotShelf : goal.shape_of-shelf-in-NotShelf
-shape_of-shelf-in-NotShelf c = search (removes, rules)
-
-pub returns-in-NotShelf : goal.returns-in-NotShelf
-returns-in-NotShelf c = search (removes, rules)
-
-pub shape_of-shelf-in-Entries : goal.shape_of-shelf-in-Entries
-shape_of-shelf-in-Entries c = search (removes, rules)
-
-pub returns-in-Entries : goal.returns-in-Entries
-returns-in-Entries c = search (removes, rules)
+pub returns : goal.returns
+returns c =
+    let e = c.in_ok-entries.entries in
+    let h : OfShelf c.args.shelf.now e = of_shelf c.args.shelf.now c.of.result c.of.ensures e c.in_ok-entries.was in
+    let q = removed c.args.shelf.now c.args.code e h c.find_code.result c.find_code.ensures c.in_ok-k.k c.in_ok-k.ensures.value in
+    record { answer = rw q; bytes = rw q c.remove_at.ensures }

@@ -1,0 +1,32 @@
+// The reading: the counts of a text, and its rows. Two passes over the text: the measure counts, then the rows are written. Both begin with the
+// text's first step, which is read once.
+#![tactic(auto)]
+
+ghost use Rattle.std.specs.Prelude.{◌≡◌, length};
+ghost use Rattle.rules.specs.Answers.{reading_call, reading_outcome, comparator_words_after, identifier_words_after};
+ghost use Rattle.range.specs.Views.{compat_of};
+ghost use Rattle.rangeset.specs.Views.{outcome_of};
+
+use range::Compat;
+use range_rows::put_ranges;
+use rangeset::{Counts, RangeSet};
+use refusals::Refusal;
+use rows::COMPARATOR_WORDS;
+
+#[tactic(auto, using(crate::proofs::Outcomes::outcomes))]
+pub fn read(s: &[u8], compat: Compat, words: &mut [u64], ids: &mut [u64]) -> Result<Counts, Refusal>
+    ensures answer { outcome_of result ≡ reading_outcome (reading_call (compat_of compat) s.now (length words.old) (length ids.old)) }
+    ensures words { words.new ≡ comparator_words_after (compat_of compat) s.now (reading_call (compat_of compat) s.now (length words.old) (length ids.old)) words.old }
+    ensures ids { ids.new ≡ identifier_words_after s.now (reading_call (compat_of compat) s.now (length words.old) (length ids.old)) ids.old }
+{
+    let set = RangeSet::parse(s, compat)?;
+    let counts = set.counts;
+    if counts.comparators > words.len() / COMPARATOR_WORDS {
+        return Err(Refusal::ComparatorsShort);
+    }
+    if counts.identifiers > ids.len() / 3 {
+        return Err(Refusal::IdentifiersShort);
+    }
+    put_ranges(s, compat, set.first, words, ids);
+    Ok(counts)
+}
