@@ -6,20 +6,13 @@ use Rattle.rules.specs.Expansion as E
 use Rattle.rules.specs.Answers.{accepted, reading, reading_outcome}
 use Rattle.rules.specs.Version as R
 use Rattle.rules.specs.Walk as W
-use Rattle.rules.specs.Walk.{goes_on}
+use Rattle.rules.specs.Walk.{goes_on, opening, push}
 use Rattle.rules.specs.Admission.{meets, admits, admits_if, version_of, admission_call}
-use Rattle.walk.specs.Views.{Stepped, stage_of, next_is, step_is, step_in, step_at}
+use Rattle.walk.specs.Views.{Stepped, step_is, step_in, step_at}
 use Rattle.walk.specs.declared.Step.{Step}
-use Rattle.walk.specs.contracts.Stage.{the_type}
-use denote.Enum.Bare.{sameb}
-use Rattle.std.specs.Borrow.{Bor}
-use Rattle.std.specs.Option.{IsSome}
-use Rattle.walk.specs.declared.Stage.{Stage}
-use Rattle.walk.specs.declared.Stage.TheVariants as Stages
-use Rattle.passes.specs.Views.{first_step, step_gives}
-use Rattle.passes.proofs.Turn.{ahead}
-use Rattle.passes.proofs.Passing.{Passing, starting, Passes, passes, passing_next, passing_end, goes_stage}
-use Rattle.passes.proofs.Due.{Due, due_first}
+use Rattle.passes.specs.Views.{first_step, step_gives, ends_range}
+use Rattle.passes.proofs.Passing.{Passing, starting, Passes, passes, passing_end, passing_ends}
+use Rattle.passes.proofs.Due.{Due, Awaited, awaited, awaited_due, ahead_in, following_fewer}
 use Rattle.passes.proofs.Folds.{todo, next_at, todo-next, todo-push}
 use Rattle.rangeset.specs.Views.{outcome_of}
 use Rattle.rangeset.specs.declared.Counts.{Counts}
@@ -35,38 +28,30 @@ use Rattle.admission.proofs.Verdicts.{Verdict, between, within, meets_piece, ver
 
 -- ---- the loop
 
-abbrev is_range : W.Stage → Bool
-is_range W.item = false
-is_range W.range = true
-is_range W.right = false
-is_range W.only = false
-is_range W.end = false
-is_range W.bad = false
-
--- what the loop knows at a stage, where no range before has admitted the version
-abbrev verdict_at : W.Stage → Bool → Verdict
-verdict_at W.range a = between
-verdict_at W.item a = within a
-verdict_at W.right a = within a
-verdict_at W.only a = within a
-verdict_at W.end a = within a
-verdict_at W.bad a = within a
+-- what the loop and the pieces to come make of it at a stage, where no range before has admitted the version; at the end nothing is to come
+abbrev outcome : R.Version → W.Stage → Bool → List (List E.Piece) → Bool
+outcome v W.range a rs = todo (verdict v) W.range between rs
+outcome v W.item a rs = todo (verdict v) W.item (within a) rs
+outcome v W.right a rs = todo (verdict v) W.right (within a) rs
+outcome v W.only a rs = todo (verdict v) W.only (within a) rs
+outcome v W.end a rs = false
+outcome v W.bad a rs = todo (verdict v) W.bad (within a) rs
 
 module _ (m : E.Compat) (s : List ℕ) (v : R.Version) where
   -- what is still to come decides
   pub record Admitting (all : Bool) (n : W.Stage × List ℕ) : Type 0 where
     pub pass : Passing m n
-    pub rest : admits_if admits v (reading m s) ≡ todo (verdict v) n.0 (verdict_at n.0 all) pass.coming
-    pub fresh : is_range n.0 ≡ true → all ≡ true
+    pub rest : admits_if admits v (reading m s) ≡ outcome v n.0 all pass.coming
+    pub fresh : n.0 ≡ W.range → all ≡ true
 
-  abbrev pub Admitting-due : Bool → Stepped → Type 0
-  Admitting-due all x = Due m (Admitting all) x
+  abbrev pub Admitting-awaited : Bool → Option Stepped → Type 0
+  Admitting-awaited all o = Awaited m (Admitting all) o
 
-  start : (c : Counts) → outcome_of (Ok c) ≡ reading_outcome (reading m s) → (x : Stepped) → Some x ≡ first_step m s → Admitting-due true x
-  start c e x i =
+  pub admitting_start : (c : Counts) → outcome_of (Ok c) ≡ reading_outcome (reading m s) → (x : Stepped) → Some x ≡ first_step m s → Admitting-awaited true (Some x)
+  admitting_start c e x i =
       let a = counted-reading m s c e in
       let b = starting m s a.reads a.is in
-      due_first m s (Admitting true) x i
+      awaited m (Admitting true) (W.range, s) (Some x)
       (record {
         pass = b.pass;
         rest =
@@ -76,114 +61,101 @@ module _ (m : E.Compat) (s : List ℕ) (v : R.Version) where
             ∙ sym (ap (todo (verdict v) W.range between) b.all);
         fresh = λ e. refl;
       })
+      i
 
-  -- a piece whose comparators are met, or not
-  after_piece : (st : W.Stage) (a b : Bool) (x : E.Piece) → (is_range st ≡ true → a ≡ true) → b ≡ meets_piece v x → after v (verdict_at st a) x ≡ within (a && b)
-  after_piece W.range a b x h e = rw (h refl, e)
-  after_piece W.item a b x h e = rw e
-  after_piece W.right a b x h e = rw e
-  after_piece W.only a b x h e = rw e
-  after_piece W.end a b x h e = rw e
-  after_piece W.bad a b x h e = rw e
+  pushed : (st : W.Stage) (k : Verdict) (x : E.Piece) (rs : List (List E.Piece)) → todo (verdict v) st k (opening st (push x rs)) ≡ verdict v (after v k x) rs
+  pushed = todo-push (verdict v) (λ k x r. r) (after v) (verdict_push v)
 
-  -- where no range has ended that admits the version
-  next_verdict : (st : W.Stage) (a : Bool) → is_range st && a ≡ false → next_at (verdict v) (ended v) st (within a) ≡ verdict_at st (is_range st || a)
-  next_verdict W.range a e = rw e
-  next_verdict W.item a e = refl
-  next_verdict W.right a e = refl
-  next_verdict W.only a e = refl
-  next_verdict W.end a e = refl
-  next_verdict W.bad a e = refl
+  -- a piece that begins at a stage where a step is read
+  outcome_piece : (st : W.Stage) (a : Bool) → goes_on st ≡ true → (st ≡ W.range → a ≡ true) → (x : E.Piece) (rs : List (List E.Piece))
+      → outcome v st a (opening st (push x rs)) ≡ verdict v (within (a && meets_piece v x)) rs
+  outcome_piece W.range a g f x rs = pushed W.range between x rs ∙ ap (λ a. verdict v (within (a && meets_piece v x)) rs) (sym (f refl))
+  outcome_piece W.item a g f x rs = pushed W.item (within a) x rs
+  outcome_piece W.right a g f x rs = pushed W.right (within a) x rs
+  outcome_piece W.only a g f x rs = pushed W.only (within a) x rs
+  outcome_piece W.end a g f x rs = cc
+  outcome_piece W.bad a g f x rs = cc
 
-  module _ (all : Bool) (x : Stepped) (d : Admitting-due all x) where
+  -- and behind it, where no range has ended that admits the version
+  outcome_next : {n : W.Stage × List ℕ} (g : Passing m n) (a : Bool) → ends_range n.0 && a ≡ false
+      → verdict v (within a) g.coming ≡ outcome v n.0 (ends_range n.0 || a) g.coming
+  outcome_next {n} g a e = todo-next (verdict v) (ended v) (verdict_open v) (within a) g.walks ∙ go n.0 a g.coming e (passing_end g)
+    where
+      go : (st : W.Stage) (a : Bool) (rs : List (List E.Piece)) → ends_range st && a ≡ false → (st ≡ W.end → rs ≡ [] ∷ [])
+          → todo (verdict v) st (next_at (verdict v) (ended v) st (within a)) rs ≡ outcome v st (ends_range st || a) rs
+      go W.range a rs e q = rw e refl
+      go W.item a rs e q = refl
+      go W.right a rs e q = refl
+      go W.only a rs e q = refl
+      go W.end true rs e q = cc
+      go W.end false rs e q = rw (q refl) (verdict_open v (within false) [])
+      go W.bad a rs e q = refl
+
+  -- where one has
+  outcome_ended : {n : W.Stage × List ℕ} (g : Passing m n) → ends_range n.0 ≡ true → verdict v (within true) g.coming ≡ true
+  outcome_ended {n} g e = todo-next (verdict v) (ended v) (verdict_open v) (within true) g.walks ∙ go n.0 g.coming e (passing_end g)
+    where
+      go : (st : W.Stage) (rs : List (List E.Piece)) → ends_range st ≡ true → (st ≡ W.end → rs ≡ [] ∷ [])
+          → todo (verdict v) st (next_at (verdict v) (ended v) st (within true)) rs ≡ true
+      go W.range rs e q = refl
+      go W.item rs e q = cc
+      go W.right rs e q = cc
+      go W.only rs e q = cc
+      go W.end rs e q = rw (q refl) (verdict_open v (within true) [])
+      go W.bad rs e q = cc
+
+  -- a turn: the step x is taken, and o is the one that follows it
+  module _ (all : Bool) (p : Option Step) (x' : Step) (w : Admitting-awaited all (step_in p)) (i : p ≡ Some x') where
+    abbrev x : Stepped
+    x = step_is x'
+
+    d : Due m (Admitting all) x
+    d = awaited_due m (Admitting all) (step_in p) x w (ap step_in (sym i))
+
     here : Passes d.holds.pass x
     here = passes d.holds.pass d.goes x d.is
 
-    -- its comparators are met, or not: what comes behind it decides
-    module _ (b : Bool) (i : b ≡ each (meets v) (step_gives x)) where
-      behind : admits_if admits v (reading m s) ≡ todo (verdict v) x.next.0 (next_at (verdict v) (ended v) x.next.0 (within (all && b))) here.next.coming
+    -- its comparators are met, or not
+    module _ (b : Bool) (f : b ≡ each (meets v) (step_gives x)) where
+      behind : admits_if admits v (reading m s) ≡ verdict v (within (all && b)) here.next.coming
       behind =
           d.holds.rest
-          ∙ ap (todo (verdict v) d.from.0 (verdict_at d.from.0 all)) here.is
-          ∙ todo-push (verdict v) (λ k x r. r) (after v) (verdict_push v) d.from.0 (verdict_at d.from.0 all) here.of here.next.coming
-          ∙ ap (λ k. verdict v k here.next.coming) (after_piece d.from.0 all b here.of d.holds.fresh (i ∙ ap (each (meets v)) here.gives))
-          ∙ todo-next (verdict v) (ended v) (verdict_open v) (within (all && b)) here.next.walks
+          ∙ ap (outcome v d.from.0 all) here.is
+          ∙ outcome_piece d.from.0 all d.goes d.holds.fresh here.of here.next.coming
+          ∙ ap (λ b. verdict v (within (all && b)) here.next.coming) (sym (f ∙ ap (each (meets v)) here.gives))
 
-      at_end : x.next.0 ≡ W.end → all && b ≡ admits_if admits v (reading m s)
-      at_end e =
-          sym (behind ∙ ap (todo (verdict v) x.next.0 (next_at (verdict v) (ended v) x.next.0 (within (all && b)))) (passing_end here.next e) ∙ go x.next.0 (all && b) e)
-        where
-          go : (st : W.Stage) (a : Bool) → st ≡ W.end → todo (verdict v) st (next_at (verdict v) (ended v) st (within a)) ([] ∷ []) ≡ a
-          go st true e = rw e (verdict_open v (within true) [])
-          go st false e = rw e refl
+      -- the range that has ended admits it
+      pub admits_some : ends_range x.next.0 ≡ true → all && b ≡ true → true ≡ admits_if admits v (reading m s)
+      admits_some e a = sym (behind ∙ ap (λ a. verdict v (within a) here.next.coming) a ∙ outcome_ended here.next e)
 
-      at_range : is_range x.next.0 && (all && b) ≡ true → true ≡ admits_if admits v (reading m s)
-      at_range e = sym (behind ∙ go x.next.0 (all && b) here.next.coming e)
-        where
-          go : (st : W.Stage) (a : Bool) (rs : List (List E.Piece)) → is_range st && a ≡ true → todo (verdict v) st (next_at (verdict v) (ended v) st (within a)) rs ≡ true
-          go W.range a rs e = rw e
-          go W.item a rs e = cc
-          go W.right a rs e = cc
-          go W.only a rs e = cc
-          go W.end a rs e = cc
-          go W.bad a rs e = cc
+    module _ (o : Option Stepped) (k : o ≡ step_at m x.next.0 x.next.1) where
+      pub admits_fewer : ahead_in o < ahead_in (step_in p)
+      admits_fewer = rw i (following_fewer here.next o k)
 
-      onward : is_range x.next.0 && (all && b) ≡ false → Admitting (is_range x.next.0 || (all && b)) x.next
-      onward e =
-          record {
-            pass = here.next;
-            rest = behind ∙ ap (λ k. todo (verdict v) x.next.0 k here.next.coming) (next_verdict x.next.0 (all && b) e);
-            fresh = λ k. rw k;
-          }
+      module _ (b : Bool) (f : b ≡ each (meets v) (step_gives x)) where
+        onward : ends_range x.next.0 && (all && b) ≡ false → Admitting (ends_range x.next.0 || (all && b)) x.next
+        onward e =
+            record {
+              pass = here.next;
+              rest = behind b f ∙ outcome_next here.next (all && b) e;
+              fresh = λ q. rw q;
+            }
 
-is_range_is : (st : Stage) → sameb the_type st Stages.Range ≡ is_range (stage_of st)
-is_range_is Stages.Item = refl
-is_range_is Stages.Range = refl
-is_range_is Stages.Right = refl
-is_range_is Stages.Only = refl
+        -- a range has ended, or goes on
+        pub admits_ended : ends_range x.next.0 ≡ true → all && b ≡ false → Admitting-awaited true o
+        admits_ended e a = awaited m (Admitting true) x.next o (rw e at (onward (rw e a))) k
 
-pub admitting_start : (set : RangeSet) (v : R.Version) → Admitting-due (compat_of set.compat) set.text.now v true (step_is set.first)
-admitting_start set v = start (compat_of set.compat) set.text.now v set.counts set.counted (step_is set.first) set.starts
+        pub admits_within : ends_range x.next.0 ≡ false → Admitting-awaited (all && b) o
+        admits_within e = awaited m (Admitting (all && b)) x.next o (rw e at (onward (rw e refl))) k
 
--- a step of the code
-module _ (m : E.Compat) (s : List ℕ) (v : R.Version) (all : Bool) (x : Step) (d : Admitting-due m s v all (step_is x)) where
-  module _ (st : Stage) (t : Bor (List ℕ)) (q : x.next ≡ Some (st, t)) where
-    to : next_is x.next ≡ (stage_of st, t.now)
-    to = ap next_is q
+  -- none is to come
+  pub admits_end : (all : Bool) → Admitting-awaited all None → false ≡ admits_if admits v (reading m s)
+  admits_end all w = sym (w.holds.rest ∙ go w.from.0 (passing_ends w.holds.pass w.is))
+    where
+      go : (st : W.Stage) → st ≡ W.end → outcome v st all w.holds.pass.coming ≡ false
+      go st e = rw e refl
 
-    pass : Passing m (stage_of st, t.now)
-    pass = rw to at (here m s v all (step_is x) d).next
-
-    -- there is one behind it
-    pub admits_next : (r : Option Step) → step_in r ≡ step_at m (stage_of st) t.now → IsSome r
-    admits_next None k = absurd (passing_next pass (goes_stage st) k)
-    admits_next (Some y) k = refl
-
-    pub admits_fewer : (y : Step) → step_in (Some y) ≡ step_at m (stage_of st) t.now → ahead (next_is y.next) < ahead (next_is x.next)
-    admits_fewer y k = rw to (passes pass (goes_stage st) (step_is y) k).fewer
-
-  -- its comparators are met, or not
-  module _ (b : Bool) (i : b ≡ each (meets v) (step_gives (step_is x))) where
-    pub admits_end : x.next ≡ None → all && b ≡ admits_if admits v (reading m s)
-    admits_end q = at_end m s v all (step_is x) d b i (ap (λ o. (next_is o).0) q)
-
-    module _ (st : Stage) (t : Bor (List ℕ)) (q : x.next ≡ Some (st, t)) (e : Bool) (j : e ≡ sameb the_type st Stages.Range) where
-      ended_is : e ≡ is_range (next_is x.next).0
-      ended_is = j ∙ is_range_is st ∙ sym (ap (λ n. is_range n.0) (to st t q))
-
-      pub admits_some : e && (all && b) ≡ true → true ≡ admits_if admits v (reading m s)
-      admits_some a = at_range m s v all (step_is x) d b i (sym (ap (λ e. e && (all && b)) ended_is) ∙ a)
-
-      pub admits_further : e && (all && b) ≡ false → (y : Step) → step_in (Some y) ≡ step_at m (stage_of st) t.now → Admitting-due m s v (e || (all && b)) (step_is y)
-      admits_further n y k =
-          record {
-            from = (stage_of st, t.now);
-            holds = rw (← ended_is, to st t q) at (onward m s v all (step_is x) d b i (sym (ap (λ e. e && (all && b)) ended_is) ∙ n));
-            goes = goes_stage st;
-            is = k;
-          }
-
-pub ruleset admitting = (admitting_start, admits_next, admits_fewer, admits_end, admits_some, admits_further)
+pub ruleset admitting = (admits_end)
 
 -- ---- the calls
 

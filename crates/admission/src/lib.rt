@@ -17,18 +17,19 @@ ghost use Rattle.refusals.specs.Views.{answer_of};
 
 use lexer::{Reader, skip_identifier};
 use partial::Comparator;
-use passes::{as_read, raised};
+use passes::{as_read, ends_range, raised};
 use precedence::{compare_identifiers, compare_triples, holds};
 use range::Compat;
 use rangeset::RangeSet;
 use refusals::Refusal;
 use std::cmp::Ordering;
 use version::{Prerelease, Version, read_version};
-use walk::{Stage, Step, next};
+use walk::Step;
 
 // ---- a version against comparators
 
-// The identifiers that the version text v begins with, against those that the range text s begins with: having none stands above having some.
+// The identifiers that the version text v begins with, against those that the range text s begins with: having none stands above having some,
+// which no derived order of lists says.
 #[tactic(auto, using(crate::proofs::Meeting::prereleases))]
 fn compare_prereleases(v: &[u8], s: &[u8]) -> Ordering
     ensures { order_of result ≡ compare_prereleases (version_identifiers_in v.now) (found_in s.now) }
@@ -44,7 +45,8 @@ fn compare_prereleases(v: &[u8], s: &[u8]) -> Ordering
 fn precedence(v: &Version<'_>, c: &Comparator<'_>) -> Ordering
     ensures { order_of result ≡ precedence (version_is v.now) (version c.now.major c.now.minor c.now.patch (found_in c.now.identifiers.now)) }
 {
-    match compare_triples(v.major, v.minor, v.patch, c.major, c.minor, c.patch) {
+    let numbers = (c.major, c.minor, c.patch);
+    match compare_triples((v.major, v.minor, v.patch), numbers) {
         Ordering::Equal => compare_prereleases(v.prerelease, c.identifiers),
         order => order,
     }
@@ -76,22 +78,22 @@ fn admits(set: &RangeSet<'_>, v: &Version<'_>) -> bool
     ensures { result ≡ admits_if admits (version_is v.now) (reading (compat_of set.now.compat) set.now.text.now) }
 {
     let mut all = true;
-    let mut x = set.first;
-    loop {
-        let met = all & meets_step(v, &x);
-        let Some((stage, left)) = x.next else {
-            return met;
-        };
-        let ended = stage == Stage::Range;
-        if ended & met {
-            return true;
+    let mut step = Some(set.first);
+    while let Some(x) = step {
+        all &= meets_step(v, &x);
+        if ends_range(&x) {
+            if all {
+                return true;
+            }
+            all = true;
         }
-        all = ended | met;
-        x = next(left, stage, set.compat).unwrap();
+        step = x.following(set.compat);
     }
+    false
 }
 
-// Whether the range text s admits the version. A range text to which one of 1 to 4 applies admits none.
+// Whether the range text s admits the version. A range text to which one of 1 to 4 applies admits none. With `is_ok_and` in place of the match the
+// proof did not close.
 #[tactic(auto, using(crate::proofs::Admitting::calls))]
 pub fn admits_held(s: &[u8], compat: Compat, v: &Version<'_>) -> bool
     ensures { result ≡ admits_if admits (version_is v.now) (reading (compat_of compat) s.now) }

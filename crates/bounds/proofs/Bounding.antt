@@ -1,25 +1,24 @@
 -- The pass that finds a text's lowest and highest triple: what its loop knows, and what each of its ways gives.
 -- Assumes nothing.
-use Rattle.std.proofs.Common.{ℕ, ◌≡◌, ◌<◌, true, List, [], ◌∷◌, ◌++◌, map, refl, Some, None, Ok, ◌∙◌, ap, ap₂, sym}
+use Rattle.std.proofs.Common.{ℕ, ◌≡◌, ◌<◌, true, false, List, [], ◌∷◌, ◌++◌, map, refl, Option, Some, None, Ok, ◌∙◌, ap, ap₂, sym}
+use Rattle.rules.specs.Bytes.{pick}
 use Rattle.rules.specs.Syntax.{Range}
 use Rattle.rules.specs.Expansion as E
 use Rattle.rules.specs.Expansion.{Comparator, Piece, comparators, comparators_of, expand_range, expand}
 use Rattle.rules.specs.Answers.{accepted, map_answer, reading, reading_outcome}
 use Rattle.rules.specs.Walk as W
-use Rattle.rules.specs.Walk.{push}
-use Rattle.walk.specs.Views.{Stepped, step_at, stage_of}
-use Rattle.walk.specs.declared.Stage.{Stage}
-use Rattle.passes.specs.Views.{first_step, kept_gives, raised_gives, step_gives}
-use Rattle.passes.proofs.Turn.{ahead}
-use Rattle.passes.proofs.Passing.{Passing, starting, Passes, passes, passing_next, passing_end, goes_stage}
-use Rattle.passes.proofs.Due.{Due, due_first}
-use Rattle.passes.proofs.Folds.{todo, next_at, todo-next, todo-end, todo-push}
+use Rattle.rules.specs.Walk.{goes_on, opening, push}
+use Rattle.walk.specs.Views.{Stepped, step_at}
+use Rattle.passes.specs.Views.{first_step, kept_gives, raised_gives, step_gives, ends_range}
+use Rattle.passes.proofs.Passing.{Passing, starting, Passes, passes, passing_end, passing_ends}
+use Rattle.passes.proofs.Due.{Due, Awaited, awaited, awaited_due, ahead_in, following_fewer}
+use Rattle.passes.proofs.Folds.{todo, next_at, todo-next, todo-push}
 use Rattle.rangeset.specs.Views.{outcome_of}
 use Rattle.rangeset.specs.declared.Counts.{Counts}
 use Rattle.rangeset.proofs.Outcomes.{counted-reading}
 use Rattle.shelf_rules.specs.Triples as T
 use Rattle.shelf_rules.specs.Triples.{lowest, highest, low_from, high_from, least_from, greatest_from, Bounds, bounds_of}
-use Rattle.bounds.specs.Views.{ranged, everything, joined, is_range, all_behind, range_behind}
+use Rattle.bounds.specs.Views.{ranged, everything, joined}
 
 abbrev pair : T.Triple → T.Triple → Bounds
 pair l h = record { low = l; high = h }
@@ -109,69 +108,62 @@ step_ranged_by b c d x k l e f p q = q ∙ ap (λ c. ranged c l) p ∙ ap₂ (λ
 
 -- ---- the loop
 
--- what the loop's two bounds are at a stage
-abbrev stand_at : W.Stage → Bounds → Bounds → Stand
-stand_at W.range a b = between a
-stand_at W.item a b = within a b
-stand_at W.right a b = within a b
-stand_at W.only a b = within a b
-stand_at W.end a b = within a b
-stand_at W.bad a b = within a b
+-- where a step at this stage begins: of the ranges that have ended, and of this one so far
+abbrev all_behind : W.Stage → Bounds → Bounds → Bounds
+all_behind st a b = pick (ends_range st) (joined a b) a
+
+abbrev range_behind : W.Stage → Bounds → Bounds
+range_behind st b = pick (ends_range st) everything b
+
+-- what the loop's two bounds and the pieces to come make of it at a stage; at the end nothing is to come
+abbrev outcome : W.Stage → Bounds → Bounds → List (List Piece) → Bounds
+outcome W.range a b rs = todo bound W.range (between a) rs
+outcome W.item a b rs = todo bound W.item (within a b) rs
+outcome W.right a b rs = todo bound W.right (within a b) rs
+outcome W.only a b rs = todo bound W.only (within a b) rs
+outcome W.end a b rs = a
+outcome W.bad a b rs = todo bound W.bad (within a b) rs
 
 -- a and b are the bounds of what stands before what is to come
 pub record Bounding (m : E.Compat) (s : List ℕ) (a b : Bounds) (n : W.Stage × List ℕ) : Type 0 where
   pub reads : E.Reading
   pub is : reading m s ≡ accepted reads
   pub pass : Passing m n
-  pub rest : todo bound n.0 (stand_at n.0 a b) pass.coming ≡ bounds_of reads
-  pub fresh : is_range n.0 ≡ true → b ≡ everything
+  pub rest : outcome n.0 a b pass.coming ≡ bounds_of reads
+  pub fresh : n.0 ≡ W.range → b ≡ everything
 
--- behind a piece
-module _ (x : Stepped) (p : Piece) (g : step_gives x ≡ comparators p) where
-  after-piece : (st : W.Stage) (a b : Bounds) → (is_range st ≡ true → b ≡ everything) → after (stand_at st a b) p ≡ within a (ranged b (step_gives x))
-  after-piece W.range a b f = ap (λ b. within a (ranged b (comparators p))) (sym (f refl)) ∙ ap (λ l. within a (ranged b l)) (sym g)
-  after-piece W.item a b f = ap (λ l. within a (ranged b l)) (sym g)
-  after-piece W.right a b f = ap (λ l. within a (ranged b l)) (sym g)
-  after-piece W.only a b f = ap (λ l. within a (ranged b l)) (sym g)
-  after-piece W.end a b f = ap (λ l. within a (ranged b l)) (sym g)
-  after-piece W.bad a b f = ap (λ l. within a (ranged b l)) (sym g)
+-- a piece that begins at a stage where a step is read
+outcome-piece : (st : W.Stage) (a b : Bounds) → goes_on st ≡ true → (st ≡ W.range → b ≡ everything) → (x : Piece) (rs : List (List Piece))
+    → outcome st a b (opening st (push x rs)) ≡ bound (within a (ranged b (comparators x))) rs
+outcome-piece W.range a b g f x rs = todo-push bound (λ k x r. r) after bound-push W.range (between a) x rs ∙ ap (λ b. bound (within a (ranged b (comparators x))) rs) (sym (f refl))
+outcome-piece W.item a b g f x rs = todo-push bound (λ k x r. r) after bound-push W.item (within a b) x rs
+outcome-piece W.right a b g f x rs = todo-push bound (λ k x r. r) after bound-push W.right (within a b) x rs
+outcome-piece W.only a b g f x rs = todo-push bound (λ k x r. r) after bound-push W.only (within a b) x rs
+outcome-piece W.end a b g f x rs = cc
+outcome-piece W.bad a b g f x rs = cc
 
--- where a range has ended, and where it has not
-next-stand : (st : W.Stage) (a b : Bounds) → next_at bound ended st (within a b) ≡ stand_at st (all_behind st a b) (range_behind st b)
-next-stand W.range a b = refl
-next-stand W.item a b = refl
-next-stand W.right a b = refl
-next-stand W.only a b = refl
-next-stand W.end a b = refl
-next-stand W.bad a b = refl
-
--- at the end
-last-stand : (a b : Bounds) → bound (ended (within a b)) [] ≡ joined a b
+-- and behind it
+outcome-next : {m : E.Compat} {n : W.Stage × List ℕ} (g : Passing m n) (a b : Bounds) → outcome n.0 (all_behind n.0 a b) (range_behind n.0 b) g.coming ≡ bound (within a b) g.coming
 unfolding least_from greatest_from
-last-stand a b = refl
-
--- at the end nothing is to come
-end_law : {m : E.Compat} (n : W.Stage × List ℕ) → n.0 ≡ W.end → (a c : Bounds) (g : Passing m n) (rs : E.Reading)
-    → todo bound n.0 (stand_at n.0 (all_behind n.0 a c) (range_behind n.0 c)) g.coming ≡ bounds_of rs → joined a c ≡ bounds_of rs
-end_law {m} n q a c g rs h = go n.0 q (passing_end g q) h
+outcome-next {n = n} g a b = go n.0 g.coming (passing_end g) ∙ sym (todo-next bound ended bound-open (within a b) g.walks)
   where
-    go : (st : W.Stage) → st ≡ W.end → g.coming ≡ [] ∷ [] → todo bound st (stand_at st (all_behind st a c) (range_behind st c)) g.coming ≡ bounds_of rs → joined a c ≡ bounds_of rs
-    go W.item q e h = cc
-    go W.range q e h = cc
-    go W.right q e h = cc
-    go W.only q e h = cc
-    go W.end q e h = sym (last-stand a c) ∙ sym (todo-end bound ended bound-open W.end (within a c) refl) ∙ ap (todo bound W.end (within a c)) (sym e) ∙ h
-    go W.bad q e h = cc
+    go : (st : W.Stage) (rs : List (List Piece)) → (st ≡ W.end → rs ≡ [] ∷ []) → outcome st (all_behind st a b) (range_behind st b) rs ≡ todo bound st (next_at bound ended st (within a b)) rs
+    go W.range rs e = refl
+    go W.item rs e = refl
+    go W.right rs e = refl
+    go W.only rs e = refl
+    go W.end rs e = rw (e refl) (sym (bound-open (within a b) []))
+    go W.bad rs e = refl
 
 module _ (m : E.Compat) (s : List ℕ) where
-  abbrev pub Bounding-due : Bounds → Bounds → Stepped → Type 0
-  Bounding-due a b x = Due m (Bounding m s a b) x
+  abbrev pub Bounding-awaited : Bounds → Bounds → Option Stepped → Type 0
+  Bounding-awaited a b o = Awaited m (Bounding m s a b) o
 
-  pub bounding_start : (c : Counts) → outcome_of (Ok c) ≡ reading_outcome (reading m s) → (x : Stepped) → Some x ≡ first_step m s → Bounding-due nothing everything x
+  pub bounding_start : (c : Counts) → outcome_of (Ok c) ≡ reading_outcome (reading m s) → (x : Stepped) → Some x ≡ first_step m s → Bounding-awaited nothing everything (Some x)
   bounding_start c e x f =
       let h = counted-reading m s c e in
       let b = starting m s h.reads h.is in
-      due_first m s (Bounding m s nothing everything) x f
+      awaited m (Bounding m s nothing everything) (W.range, s) (Some x)
       (record {
         reads = h.reads;
         is = h.is;
@@ -179,45 +171,45 @@ module _ (m : E.Compat) (s : List ℕ) where
         rest = ap (todo bound W.range (between nothing)) b.all ∙ bound-text m b.text.ranges ∙ ap bounds_of (sym b.text.is);
         fresh = λ e. refl;
       })
+      f
 
-  module _ (a b : Bounds) (x : Stepped) (d : Bounding-due a b x) where
+  -- a turn: the step x is taken, and o is the one that follows it
+  module _ (a b : Bounds) (p : Option Stepped) (x : Stepped) (w : Bounding-awaited a b p) (i : Some x ≡ p) (o : Option Stepped) (k : o ≡ step_at m x.next.0 x.next.1) where
+    d : Due m (Bounding m s a b) x
+    d = awaited_due m (Bounding m s a b) p x w i
+
     here : Passes d.holds.pass x
     here = passes d.holds.pass d.goes x d.is
+
+    pub bounding_fewer : ahead_in o < ahead_in p
+    bounding_fewer = rw (← i) (following_fewer here.next o k)
 
     module _ (c : Bounds) (f : c ≡ ranged b (step_gives x)) where
       behind : Bounding m s (all_behind x.next.0 a c) (range_behind x.next.0 c) x.next
       behind =
-          let from = d.from.0 in let to = x.next.0 in
           record {
             reads = d.holds.reads;
             is = d.holds.is;
             pass = here.next;
             rest =
-                sym (ap (λ k. todo bound to k here.next.coming) (next-stand to a c))
-                ∙ sym (todo-next bound ended bound-open (within a c) here.next.walks)
-                ∙ ap (λ k. bound k here.next.coming) (ap (within a) f ∙ sym (after-piece x here.of here.gives from a b d.holds.fresh))
-                ∙ sym (todo-push bound (λ k x r. r) after bound-push from (stand_at from a b) here.of here.next.coming)
-                ∙ ap (todo bound from (stand_at from a b)) (sym here.is)
+                outcome-next here.next a c
+                ∙ ap (λ b. bound (within a b) here.next.coming) (f ∙ ap (ranged b) here.gives)
+                ∙ sym (outcome-piece d.from.0 a b d.goes d.holds.fresh here.of here.next.coming)
+                ∙ ap (outcome d.from.0 a b) (sym here.is)
                 ∙ d.holds.rest;
             fresh = λ e. rw e;
           }
 
-      -- nothing is to come
-      pub bounding_end : x.next.0 ≡ W.end → accepted (joined a c) ≡ map_answer bounds_of (reading m s)
-      unfolding behind
-      bounding_end q = ap accepted (end_law x.next q a c behind.pass d.holds.reads behind.rest) ∙ ap (map_answer bounds_of) (sym d.holds.is)
+      -- a range has ended, or goes on
+      pub bounding_ended : ends_range x.next.0 ≡ true → Bounding-awaited (joined a c) everything o
+      bounding_ended e = awaited m (Bounding m s (joined a c) everything) x.next o (rw e at behind) k
 
-      module _ (st : Stage) (t : List ℕ) (q : x.next ≡ (stage_of st, t)) where
-        from : Bounding m s (all_behind (stage_of st) a c) (range_behind (stage_of st) c) (stage_of st, t)
-        from = rw q at behind
+      pub bounding_within : ends_range x.next.0 ≡ false → Bounding-awaited a c o
+      bounding_within e = awaited m (Bounding m s a c) x.next o (rw e at behind) k
 
-        -- there is a step
-        pub bounding_next : None ≡ step_at m (stage_of st) t → ⊥
-        bounding_next e = passing_next from.pass (goes_stage st) e
-
-        module _ (x' : Stepped) (k : Some x' ≡ step_at m (stage_of st) t) where
-          pub bounding_step : Bounding-due (all_behind (stage_of st) a c) (range_behind (stage_of st) c) x'
-          bounding_step = record { from = (stage_of st, t); holds = from; goes = goes_stage st; is = k }
-
-          pub bounding_fewer : ahead x'.next < ahead x.next
-          bounding_fewer = let h = passes from.pass (goes_stage st) x' k in rw q h.fewer
+  -- none is to come
+  pub bounding_end : (a b : Bounds) → Bounding-awaited a b None → accepted a ≡ map_answer bounds_of (reading m s)
+  bounding_end a b w = ap accepted (go w.from.0 (passing_ends w.holds.pass w.is) w.holds.rest) ∙ ap (map_answer bounds_of) (sym w.holds.is)
+    where
+      go : (st : W.Stage) → st ≡ W.end → outcome st a b w.holds.pass.coming ≡ bounds_of w.holds.reads → a ≡ bounds_of w.holds.reads
+      go st e h = rw e at h

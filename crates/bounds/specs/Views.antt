@@ -1,9 +1,7 @@
 -- What the pass over a text's steps makes of its bounds.
 -- Assumes nothing.
-use Rattle.std.specs.Prelude.{List, Bool, true, false}
-use Rattle.rules.specs.Bytes.{pick}
+use Rattle.std.specs.Prelude.{List}
 use Rattle.rules.specs.Expansion.{Comparator}
-use Rattle.rules.specs.Walk as W
 use Rattle.shelf_rules.specs.Triples.{larger, smaller, lowest, highest, low_with, high_with, low_from, high_from, Bounds}
 
 -- the bounds of a range so far, with a comparator more, and with several
@@ -20,19 +18,3 @@ everything = record { low = lowest; high = highest }
 -- the least low and the greatest high of both
 abbrev pub joined : Bounds → Bounds → Bounds
 joined a b = record { low = smaller a.low b.low; high = larger a.high b.high }
-
--- a range begins
-abbrev pub is_range : W.Stage → Bool
-is_range W.item = false
-is_range W.range = true
-is_range W.right = false
-is_range W.only = false
-is_range W.end = false
-is_range W.bad = false
-
--- where a step at this stage begins: of the ranges that have ended, and of this one so far
-abbrev pub all_behind : W.Stage → Bounds → Bounds → Bounds
-all_behind st a b = pick (is_range st) (joined a b) a
-
-abbrev pub range_behind : W.Stage → Bounds → Bounds
-range_behind st b = pick (is_range st) everything b

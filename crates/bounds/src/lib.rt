@@ -5,17 +5,17 @@ ghost use Rattle.std.specs.Prelude.{◌≡◌};
 ghost use Rattle.rules.specs.Answers.{accepted, map_answer, reading};
 ghost use Rattle.partial.specs.Views.{op_of, comparator_is};
 ghost use Rattle.range.specs.Views.{compat_of};
-ghost use Rattle.walk.specs.Views.{stage_of, step_is};
+ghost use Rattle.walk.specs.Views.{step_is};
 ghost use Rattle.passes.specs.Views.{listed, step_gives};
 ghost use Rattle.shelf_rules.specs.Triples.{is_lower, is_upper, bounds_of};
 ghost use Rattle.triples.specs.Views.{triple_is, bounds_is};
-ghost use Rattle.bounds.specs.Views.{bounds_with, ranged, joined, all_behind, range_behind};
+ghost use Rattle.bounds.specs.Views.{bounds_with, ranged, joined};
 
 use partial::{Comparator, Op};
-use passes::{as_read, raised};
+use passes::{as_read, ends_range, raised};
 use rangeset::RangeSet;
 use triples::{Bounds, Triple};
-use walk::{Stage, Step, next};
+use walk::Step;
 
 // ---- triples
 
@@ -33,6 +33,7 @@ const HIGHEST: Triple = Triple {
 
 // ---- the comparators of a step
 
+// An operator of a lower end, and one of an upper end. One function over a list of operators would be a search where these are a pattern.
 fn is_lower(op: Op) -> bool
     ensures { result ≡ is_lower (op_of op) }
 {
@@ -81,10 +82,17 @@ fn with_step(b: Bounds, x: &Step<'_>) -> Bounds
 
 // ---- the ranges
 
-// Of a range with no comparator: every triple is between them.
+// Of a range with no comparator: every triple is between them. 02 (N3) gives these numbers, and the rules' `bounds_of` begins with those of no range:
+// an Option in their place would be asked at each comparator and each range.
 const EVERYTHING: Bounds = Bounds {
     low: LOWEST,
     high: HIGHEST,
+};
+
+// Of no range.
+const NOTHING: Bounds = Bounds {
+    low: HIGHEST,
+    high: LOWEST,
 };
 
 // The least low and the greatest high of both.
@@ -98,42 +106,20 @@ fn joined(a: Bounds, b: Bounds) -> Bounds
     }
 }
 
-// Where a step at this stage begins: the bounds of the ranges that have ended, and those of this one so far.
-fn all_behind(a: Bounds, b: Bounds, stage: Stage) -> Bounds
-    ensures { bounds_is result ≡ all_behind (stage_of stage) (bounds_is a) (bounds_is b) }
-{
-    match stage {
-        Stage::Range => joined(a, b),
-        _ => a,
-    }
-}
-
-fn range_behind(b: Bounds, stage: Stage) -> Bounds
-    ensures { bounds_is result ≡ range_behind (stage_of stage) (bounds_is b) }
-{
-    match stage {
-        Stage::Range => EVERYTHING,
-        _ => b,
-    }
-}
-
 // Of all ranges.
 pub fn bounds_of(set: &RangeSet<'_>) -> Bounds
     ensures { accepted (bounds_is result) ≡ map_answer bounds_of (reading (compat_of set.now.compat) set.now.text.now) }
 {
-    let mut all = Bounds {
-        low: HIGHEST,
-        high: LOWEST,
-    };
+    let mut all = NOTHING;
     let mut range = EVERYTHING;
-    let mut x = set.first;
-    loop {
-        let b = with_step(range, &x);
-        let Some((stage, left)) = x.next else {
-            return joined(all, b);
-        };
-        all = all_behind(all, b, stage);
-        range = range_behind(b, stage);
-        x = next(left, stage, set.compat).unwrap();
+    let mut step = Some(set.first);
+    while let Some(x) = step {
+        range = with_step(range, &x);
+        if ends_range(&x) {
+            all = joined(all, range);
+            range = EVERYTHING;
+        }
+        step = x.following(set.compat);
     }
+    all
 }

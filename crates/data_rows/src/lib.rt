@@ -2,10 +2,15 @@
 #![tactic(auto)]
 
 ghost use Rattle.std.specs.Prelude.{◌≡◌, ◌+◌, ◌-◌, ◌≤◌, drop, length, min, take};
+ghost use Rattle.rules.specs.Parse.{read_number};
+ghost use Rattle.lexer.specs.Views.{number_of};
+ghost use Rattle.data_rows.specs.Views.{number_at};
 
 use lexer::read_number;
+use std::io;
+use std::time::Clock;
 
-// So many, or as many as there are.
+// So many, or as many as there are. Neither of the two types has a `From` to the other.
 pub fn at_most(n: u64, room: usize) -> usize
     ensures { result ≡ min n room }
 {
@@ -29,10 +34,12 @@ impl<'a> Rest<'a> {
         text
     }
 
-    // Takes a number and the byte behind it. Where there is no number, that is 0; one of more than 64 bits is the largest.
+    // Takes a number and the byte behind it. Where there is no number, that is 0, as for a field that a row leaves empty; one of more than 64 bits is the
+    // largest.
     #[tactic(auto, using(crate::proofs::Numbers::number_within))]
     pub fn number(&mut self) -> u64
-        ensures { length self.new.bytes.now ≤ length self.old.bytes.now - 1 }
+        ensures value { result ≡ number_at (number_of (read_number self.old.bytes.now)) }
+        ensures rest { length self.new.bytes.now ≤ length self.old.bytes.now - 1 }
     {
         let (value, left) = match read_number(self.bytes) {
             Some(number) => (number.value.unwrap_or(u64::MAX), number.left),
@@ -42,4 +49,29 @@ impl<'a> Rest<'a> {
         self.text(0);
         value
     }
+}
+
+// ---- the rows
+
+// A row of a file, which is a byte at least.
+pub trait Row<'a>: Sized {
+    fn take(rest: &mut Rest<'a>) -> Self
+        ensures { length rest.new.bytes.now ≤ length rest.old.bytes.now - 1 };
+}
+
+// Reads standard input to `file`, and shows each row. There is no heap, so the caller lends more bytes than there are: of a longer input the last row
+// would be cut off.
+pub fn replay<'a, R: Row<'a>, F: FnMut(R) -> io::Result<()>>(
+    rt: &(impl io::Input + Clock),
+    file: &'a mut [u8],
+    mut show: F,
+) -> io::Result<()>
+    requires { F.IsAlwaysCallable show }
+{
+    let n = streams::read_all(rt, file)?;
+    let mut rest = Rest { bytes: &file[..n] };
+    while !rest.bytes.is_empty() {
+        show(R::take(&mut rest))?;
+    }
+    Ok(())
 }

@@ -13,7 +13,7 @@ use Rattle.shelf_rules.specs.Shelf.{shelf_size, capacity, count_in, entries_in, 
 use Rattle.shelf_rules.proofs.TableLaws.{rows-length, rows_at}
 use Rattle.shelf_rules.proofs.EntryLaws.{find-within}
 use Rattle.entries.specs.Counted.{Counted}
-use Rattle.entries.specs.Views.{entries_of, option_of, row_at}
+use Rattle.entries.specs.Views.{entries_of, OfShelf, option_of, row_at}
 use Rattle.entries.specs.declared.entries.Entries.{Entries}
 
 -- ---- Entries::of
@@ -38,12 +38,6 @@ module _ (l : List ℕ) where
 pub ruleset countings = (counted_yes, counted_many, counted_other)
 
 -- ---- what is known of a shelf
-
--- e are the entries of the shelf l
-pub record OfShelf (l : List ℕ) (e : Entries) : Type 0 where
-  pub bytes : e.bytes.now ≡ l
-  pub counted : Counted l e.count
-  pub shelf : shelf_in l ≡ accepted l
 
 module _ (l : List ℕ) where
   module _ (r : Result Entries Refusal) (f : entries_of r ≡ map_answer numbered (shelf_in l)) where
@@ -75,6 +69,9 @@ module _ (l : List ℕ) where
         go (refused m) p = cc
 
   module _ (e : Entries) (h : OfShelf l e) where
+    pub shelf_counted : Counted l (count_in l)
+    shelf_counted = rw h.counted.is h.counted
+
     pub shelf_rows : entries_in l ≡ rows_of 100 e.count (drop 2 e.bytes.now)
     unfolding entries_in
     shelf_rows = rw (h.bytes, h.counted.is)

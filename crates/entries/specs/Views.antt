@@ -7,7 +7,8 @@ use Rattle.rules.specs.Answers.{Answer, accepted, refused}
 use Rattle.refusals.specs.Views.{number_of}
 use Rattle.refusals.specs.declared.Refusal.{Refusal}
 use Rattle.shelf_rules.specs.Shelf as S
-use Rattle.shelf_rules.specs.Shelf.{entry_width, kept_width, kept_place, code_in, text_in}
+use Rattle.shelf_rules.specs.Shelf.{shelf_in, entry_width, kept_width, kept_place, code_in, text_in}
+use Rattle.entries.specs.Counted.{Counted}
 use Rattle.entries.specs.declared.entries.Part.{Part}
 use Rattle.entries.specs.declared.entries.Entries.{Entries}
 
@@ -20,6 +21,12 @@ option_of Std.None = none
 abbrev pub entries_of : Result Entries Refusal → Answer (List ℕ × ℕ)
 entries_of (Ok e) = accepted (e.bytes.now, e.count)
 entries_of (Err r) = refused (number_of r)
+
+-- e are the entries of the shelf l, to which 10 does not apply
+pub record OfShelf (l : List ℕ) (e : Entries) : Type 0 where
+  pub bytes : e.bytes.now ≡ l
+  pub counted : Counted l e.count
+  pub shelf : shelf_in l ≡ accepted l
 
 -- the bytes of the entry's place k, and of its triples
 abbrev pub row_at : ℕ → List ℕ → List ℕ

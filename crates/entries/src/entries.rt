@@ -4,12 +4,14 @@ ghost use Rattle.rules.specs.Answers.{map_answer};
 ghost use Rattle.shelf_rules.specs.Table.{rows_of};
 ghost use Rattle.shelf_rules.specs.Shelf.{entry_width, kept_width, kept_place, code_in, count_in, find_code, shelf_in, bounds_in};
 
-use crate::{CAPACITY, ENTRY_BYTES, KEPT_BYTES, KEPT_PLACE, SHELF_BYTES, TEXT_BYTES};
+use crate::{
+    CAPACITY, ENTRY_BYTES, KEPT_BYTES, KEPT_PLACE, SHELF_BYTES, TEXT, TEXT_BYTES, TEXT_LENGTH,
+};
 use memory::two_at;
 use refusals::Refusal;
 use triples::{Bounds, bounds_at};
 
-// Where a text stands in the shelf, and how long it is.
+// Where a text stands in the shelf, and how long it is: the exported call hands back these numbers, and no part of the memory.
 #[derive(Clone, Copy)]
 pub struct Part {
     pub place: usize,
@@ -25,13 +27,15 @@ pub struct Entries<'a> {
 }
 
 impl<'a> Entries<'a> {
-    ghost use Rattle.std.specs.Prelude.{drop};
-    ghost use Rattle.entries.specs.Views.{entries_of, option_of, row_at, kept_at, part_at, IsFirst};
+    ghost use Rattle.std.specs.Prelude.{drop, IfOk};
+    ghost use Rattle.entries.specs.Views.{entries_of, OfShelf, option_of, row_at, kept_at, part_at, IsFirst};
     ghost use Rattle.triples.specs.Views.{bounds_is};
 
     // Those of the shelf that the bytes are, if 10 does not apply.
+    #[tactic(auto, using(crate::proofs::Counting::countings))]
     pub fn of(shelf: &'a [u8]) -> Result<Entries<'a>, Refusal>
-        ensures { entries_of result ≡ map_answer (λ l. (l, count_in l)) (shelf_in shelf.now) }
+        ensures answer { entries_of result ≡ map_answer (λ l. (l, count_in l)) (shelf_in shelf.now) }
+        ensures shelf { IfOk result (OfShelf shelf.now) }
     {
         if shelf.len() != SHELF_BYTES {
             return Err(Refusal::NotShelf);
@@ -46,7 +50,8 @@ impl<'a> Entries<'a> {
         })
     }
 
-    // The bytes of the entry at k.
+    // The bytes of the entry at k, where 02 (N1) lays them out. That k is below the count is not asked, here and below: it would ask more of callers than
+    // the bytes of an entry there.
     #[tactic(auto, using(crate::proofs::Rows::row_is))]
     pub fn row(self, k: usize) -> &'a [u8]
         requires { 2 + entry_width * k + entry_width ≤ length self.bytes.now }
@@ -74,15 +79,14 @@ impl<'a> Entries<'a> {
         two_at(self.row(k), 0)
     }
 
-    // Its text.
+    // Its text, found by the place that 02 (N1) gives it in its row: "a length over 96 lists as the empty text".
     pub fn part_at(self, k: usize) -> Part
         requires { 2 + entry_width * k + entry_width ≤ length self.bytes.now }
         ensures { result ≡ part_at k self.entry.bytes.now }
     {
-        let at = 2 + ENTRY_BYTES * k;
-        let n = usize::from(self.bytes[at + 3]);
+        let n = usize::from(self.row(k)[TEXT_LENGTH]);
         Part {
-            place: at + 4,
+            place: 2 + ENTRY_BYTES * k + TEXT,
             length: if n <= TEXT_BYTES { n } else { 0 },
         }
     }
@@ -94,7 +98,8 @@ impl<'a> Entries<'a> {
         (0..self.count).find(|k| self.code_at(*k) == code)
     }
 
-    // The part code of the first one whose place passes the test.
+    // The part code of the first one whose place passes the test. A `for` and no `find`, which asks for a test that may be called always: more than at the
+    // places of entries.
     pub fn first<F: Fn(usize) -> bool>(self, test: F) -> Option<u16>
         requires { (k : ℕ) → k < self.count → F.pre test k }
         ensures { (p : ℕ → Bool) → ((k : ℕ) (b : Bool) → k < self.entry.count → F.post test k b → b ≡ p k) → IsFirst p self.entry.count self.entry.bytes.now result }

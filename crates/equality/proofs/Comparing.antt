@@ -170,5 +170,5 @@ module _ (m : Compat) (s a : List ℕ) (m' : Compat) (t b : List ℕ) where
       pub equal-tells : Tells m s (length a) m' t (length b) (answer_of (Ok z))
       equal-tells = tells m s (length a) m' t (length b) (answer_of (Ok z)) equal-result
 
-pub ruleset written-ways =
+pub ruleset written_ways =
     (written-first, written-second, equal-result, equal-tells)

@@ -1,6 +1,6 @@
 -- A normal text that is read again: a law for each way out, and that the reading is restored.
 -- Assumes nothing.
-use Prim.Native.Nat.{ℕ, ◌/◌, ◌<◌, ◌≤◌}
+use Prim.Native.Nat.{ℕ, ◌*◌, ◌/◌, ◌<◌, ◌≤◌}
 use mathlib.Core.Path.{◌≡◌, refl, sym, ap, ap₂, ◌∙◌}
 use mathlib.Core.List.{List}
 use native.Mathlib.Omega.{arith}
@@ -12,23 +12,30 @@ use Rattle.rules.specs.Rows.{comparator_width, placeless_reading}
 use Rattle.rules.specs.Answers.{Answer, accepted, refused, longest, reading, comparator_rows, identifier_rows, reading_call, reading_outcome, written, comparator_words_after, identifier_words_after, normal_text, normal_text_call, normal_text_outcome, bytes_after}
 use Rattle.rules.specs.Equality.{Reread, reread, text_refused, normal_refused, read_again, then_read, reread_call, neither, the_text, its_normal_text, reread_outcome, reread_bytes_after, reread_comparators_after, reread_identifiers_after, Restores}
 use Rattle.rules.proofs.RoundTrip.{round_trip}
-use Rattle.rules.proofs.ReadingCall.{reading-1, call-refused, call-5, call-6, call-accepts}
+use Rattle.rules.proofs.ReadingCall.{reading-1, call-refused, call-accepts}
 use Rattle.rules.proofs.NormalTextCall.{normal-refused, normal-accepts}
 use Rattle.rules.proofs.Equal.{placeless-comparators, placeless-identifiers, same-counts}
 use Rattle.rules.proofs.HandedBack.{start, handed-rows}
 use Rattle.refusals.specs.Views.{number_of}
 use Rattle.rangeset.specs.Views.{outcome_of}
 use Rattle.rangeset.specs.declared.Counts.{Counts}
-use Rattle.std.specs.Prelude.{Result, Ok, Err}
+use Rattle.std.specs.Prelude.{Result, Ok, Err, IfOk, MatchResult, IsErrAnd}
+use Rattle.reading.specs.Views.{CallsAnswer}
+use Rattle.std.proofs.lemmas.Result.{err_from_is_err_and}
 use Rattle.refusals.specs.declared.Refusal.{Refusal}
 use Rattle.refusals.specs.declared.Refusal.TheVariants as Refusals
-use Rattle.rangeset.proofs.Outcomes.{Counted, counted-reading, refused-reading}
+use Rattle.rangeset.proofs.Outcomes.{Counted, counted-reading, refused-reading, refusal-number}
 use Rattle.normal_text.specs.Views.{length_of}
 use Rattle.normal_text.proofs.Calls.{Writes, written-call, refused-call}
 use Rattle.equality.specs.Views.{Fits, counts_of, reread_of, Decides}
 use Rattle.equality.specs.declared.RereadError.{RereadError}
 use Rattle.equality.specs.declared.RereadError.TheVariants as W
 use Rattle.equality.proofs.Fitting.{fitting, part-within, part-is, part_length, call_fits}
+
+refused-is : (a : Answer E.Reading) (y : Refusal) → outcome_of (Err y) ≡ reading_outcome a → a ≡ refused (number_of y)
+unfolding reading_outcome
+refused-is (accepted rs) y e = absurd (refusal-number y (ap (λ x. x.refusal) e))
+refused-is (refused n) y e = ap refused (sym (ap (λ x. x.refusal) e))
 
 -- ---- the call by its parts
 
@@ -57,23 +64,16 @@ module _ (m m' : Compat) (s : List ℕ) (lent cw iw : ℕ) where
       again : (ss : E.Reading) × (reading m' (spell rs) ≡ accepted ss) × (placeless_reading ss ≡ placeless_reading rs)
       again = round_trip m m' s rs e l
 
-      reread-5 : cw / comparator_width < comparator_rows rs → reread_call m m' s lent cw iw ≡ normal_refused 5
-      reread-5 k =
-          reading-refused 5 (call-5 m' (spell rs) cw iw again.0 again.1 (rw (sym (placeless-comparators again.0 rs again.2)) at k))
-
       module _ (k : comparator_rows rs ≤ cw / comparator_width) where
         rows : comparator_rows again.0 ≤ cw / comparator_width
         rows = rw (sym (placeless-comparators again.0 rs again.2)) at k
-
-        reread-6 : iw / 3 < identifier_rows rs → reread_call m m' s lent cw iw ≡ normal_refused 6
-        reread-6 j = reading-refused 6 (call-6 m' (spell rs) cw iw again.0 again.1 rows (rw (sym (placeless-identifiers again.0 rs again.2)) at j))
 
         reread-accepts : identifier_rows rs ≤ iw / 3 → reread_call m m' s lent cw iw ≡ reread m' (spell rs) again.0
         reread-accepts j =
             then-accepted (spell rs) (normal-accepts m s lent rs e h) again.0
             (call-accepts m' (spell rs) cw iw again.0 again.1 rows (rw (sym (placeless-identifiers again.0 rs again.2)) at j))
 
--- ---- decide_space
+-- ---- decide
 
 module _ (m : Compat) (s : List ℕ) (lent cw iw : ℕ) (y : Refusal) where
   refuses-text : normal_text_call m s lent ≡ refused (number_of y) → Decides m s lent cw iw (reread_of (Err (W.Text y)))
@@ -116,29 +116,45 @@ module _ (m : Compat) (s : List ℕ) (lent cw iw : ℕ) (c : Counts) (e : counts
       short : length (spell reads) ≤ longest
       short = rw writes.size at l
 
-      pub space-5 : cw / comparator_width < c.comparators → Decides m s lent cw iw (reread_of (Err (W.NormalText Refusals.ComparatorsShort)))
-      space-5 k =
-          refuses-normal m s lent cw iw Refusals.ComparatorsShort
-          (λ m'. reread-5 m m' s lent cw iw reads writes.is writes.room short (rw comparators at k))
+      -- what the reading of the normal text answers
+      called : (o : Result Counts Refusal) → CallsAnswer c cw iw o → (m' : Compat) → outcome_of o ≡ reading_outcome (reading_call m' (spell reads) cw iw)
+      called o a m' =
+          let ss = again m m' s lent cw iw reads writes.is writes.room short in
+          a.is m' (spell reads) (e ∙ ap reading_outcome writes.is ∙ sym (same-counts ss.0 reads ss.2) ∙ sym (ap reading_outcome ss.1))
 
-      module _ (k : c.comparators ≤ cw / comparator_width) where
-        pub space-6 : iw / 3 < c.identifiers → Decides m s lent cw iw (reread_of (Err (W.NormalText Refusals.IdentifiersShort)))
-        space-6 j =
-            refuses-normal m s lent cw iw Refusals.IdentifiersShort
-            (λ m'. reread-6 m m' s lent cw iw reads writes.is writes.room short (rw comparators at k) (rw identifiers at j))
+      module _ (o : Result Counts Refusal) (a : CallsAnswer c cw iw o) where
+        pub space-short : (y : Refusal) → o ≡ Err y → Decides m s lent cw iw (reread_of (Err (W.NormalText y)))
+        space-short y i =
+            refuses-normal m s lent cw iw y
+            (λ m'. reading-refused m m' s lent cw iw reads writes.is writes.room (number_of y) (refused-is (reading_call m' (spell reads) cw iw) y (ap outcome_of (sym i) ∙ called o a m')))
 
-        pub space-whole : c.identifiers ≤ iw / 3 → Decides m s lent cw iw (reread_of (Ok c))
+        pub space-whole : IfOk o (λ x. (comparator_width * c.comparators ≤ cw) × (3 * c.identifiers ≤ iw)) → (k : Counts) → o ≡ Ok k → Decides m s lent cw iw (reread_of (Ok k))
         unfolding reread_outcome
-        space-whole j =
+        space-whole r k i =
+            let room = rw i at r in
+            let l : c.comparators ≤ cw / comparator_width = let l = room.0 in omega arith in
+            let j : c.identifiers ≤ iw / 3 = let l = room.1 in omega arith in
+            let rows : comparator_rows reads ≤ cw / comparator_width = rw comparators at l in
+            let places : identifier_rows reads ≤ iw / 3 = rw identifiers at j in
             record {
               is =
                   λ m'.
                   let ss = again m m' s lent cw iw reads writes.is writes.room short in
-                  ap (λ o. record { refuses = neither; outcome = o }) (e ∙ ap reading_outcome writes.is ∙ sym (same-counts ss.0 reads ss.2))
-                  ∙ sym (ap reread_outcome (reread-accepts m m' s lent cw iw reads writes.is writes.room short (rw comparators at k) (rw identifiers at j)));
+                  ap (λ o. record { refuses = neither; outcome = o })
+                  (ap outcome_of (sym i) ∙ called o a m'
+                  ∙ ap reading_outcome
+                  (call-accepts m' (spell reads) cw iw ss.0 ss.1 (rw (sym (placeless-comparators ss.0 reads ss.2)) at rows) (rw (sym (placeless-identifiers ss.0 reads ss.2)) at places)))
+                  ∙ sym (ap reread_outcome (reread-accepts m m' s lent cw iw reads writes.is writes.room short rows places));
             }
 
-pub ruleset spaces = (space-refused, space-1, space-5, space-6, space-whole)
+        -- a refusal is that of the normal text
+        pub space-answer : IfOk o (λ x. (comparator_width * c.comparators ≤ cw) × (3 * c.identifiers ≤ iw)) → (r : Result Counts RereadError)
+            → MatchResult o (λ x. r ≡ Ok x) (λ y. IsErrAnd r (λ z. z ≡ W.NormalText y)) → Decides m s lent cw iw (reread_of r)
+        space-answer room r h = go o refl h
+          where
+            go : (o' : Result Counts Refusal) → o ≡ o' → MatchResult o' (λ x. r ≡ Ok x) (λ y. IsErrAnd r (λ z. z ≡ W.NormalText y)) → Decides m s lent cw iw (reread_of r)
+            go (Ok k) q h = rw h (space-whole room k q)
+            go (Err y) q h = let p = err_from_is_err_and r h in rw (p.1, p.2) (space-short y q)
 
 -- ---- decide
 
@@ -150,7 +166,7 @@ module _ (m : Compat) (s : List ℕ) (r : Result Counts Refusal) (e : outcome_of
   decide-refused y q lent cw iw =
       refuses-text m s lent cw iw y (normal-refused m s lent (number_of y) (refused-reading m s y (ap outcome_of (sym q) ∙ e)))
 
-pub ruleset deciding = (decide-counts, decide-refused)
+pub ruleset deciding = (decide-counts, decide-refused, space-refused, space-1, space-short, space-whole)
 
 -- ---- read_normal_text
 

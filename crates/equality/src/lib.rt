@@ -1,24 +1,25 @@
 // Requirement 3 in calls: a normal text read again under another mode, and two texts whose readings are compared by their normal texts.
 #![tactic(auto)]
 
-ghost use Rattle.std.specs.Prelude.{◌≡◌, length};
+ghost use Rattle.std.specs.Prelude.{◌≡◌, length, Some};
 ghost use Rattle.rules.specs.Answers.{text_of, reading, reading_outcome, normal_text, normal_text_outcome, bytes_after};
 ghost use Rattle.rules.specs.Equality.{reread_call, reread_outcome, reread_bytes_after, reread_comparators_after, reread_identifiers_after, Restores, same_bytes, texts_call, texts_equal, first_after, second_after, Tells};
 ghost use Rattle.range.specs.Views.{compat_of};
-ghost use Rattle.equality.specs.Views.{Fits, counts_of, Decides, reread_of, Checks};
+ghost use Rattle.equality.specs.Views.{Fits, counts_of, error_text, Decides, reread_of, Checks};
 ghost use Rattle.refusals.specs.Views.{answer_of};
 ghost use Rattle.equality.specs.declared.RereadError.TheVariants as RereadError;
 
 use normal_text::{normal_text, normal_text_len};
 use range::Compat;
 use rangeset::{Counts, count};
-use reading::read;
-use refusals::Refusal;
-use rows::COMPARATOR_WORDS;
+use reading::{counts_within, read};
+use refusals::{LONGEST, Refusal};
+use std::fmt;
 
 // ---- a normal text, written
 
-// Writes the normal text of s, which fits, at the start of out; answers how many bytes that is.
+// Writes the normal text of s, which fits, at the start of out; answers how many bytes that is. To hand back those bytes was tried: a `&mut` that
+// goes into the result has no value behind the call, so the contract would have to say by `Lends` what out holds.
 #[tactic(auto, using(crate::proofs::Fitting::writing))]
 fn write(s: &[u8], compat: Compat, out: &mut [u8]) -> usize
     requires { Fits (compat_of compat) s.now (length out.old) }
@@ -46,32 +47,20 @@ impl From<Refusal> for RereadError {
     }
 }
 
-// The answer for a text with these counts: whether its normal text fits so many lent bytes, and the reading of that so many words. Equal
-// readings have the same counts, so the mode under which it is read does not matter.
-fn decide_space(
-    s: &[u8],
-    compat: Compat,
-    counts: Counts,
-    lent: usize,
-    words: usize,
-    ids: usize,
-) -> Result<Counts, RereadError>
-    requires { counts_of counts ≡ reading_outcome (reading (compat_of compat) s.now) }
-    ensures { Decides (compat_of compat) s.now lent words ids (reread_of result) }
-{
-    let len = normal_text_len(s, compat, lent)?;
-    if len > 65535 {
-        return Err(RereadError::NormalText(Refusal::TooLong));
+// A refusal of the normal text, and not of the text, says so.
+impl fmt::Display for RereadError {
+    ghost output = { λ e. Some (error_text e) };
+
+    fn fmt<W: fmt::Write>(&self, f: &mut fmt::Formatter<W>) -> fmt::Result {
+        match self {
+            RereadError::Text(refusal) => write!(f, "{refusal}"),
+            RereadError::NormalText(refusal) => write!(f, "normal text {refusal}"),
+        }
     }
-    if counts.comparators > words / COMPARATOR_WORDS {
-        return Err(RereadError::NormalText(Refusal::ComparatorsShort));
-    }
-    if counts.identifiers > ids / 3 {
-        return Err(RereadError::NormalText(Refusal::IdentifiersShort));
-    }
-    Ok(counts)
 }
 
+// The answer for a text: whether its normal text fits so many lent bytes, and the reading of that so many words. Equal readings have the same
+// counts, so the mode under which it is read does not matter. All is decided before a byte is written, since a refusal changes none.
 #[tactic(auto, using(crate::proofs::Rereading::deciding))]
 fn decide(
     s: &[u8],
@@ -83,10 +72,16 @@ fn decide(
     ensures { Decides (compat_of compat) s.now lent words ids (reread_of result) }
 {
     let counts = count(s, compat)?;
-    decide_space(s, compat, counts, lent, words, ids)
+    let len = normal_text_len(s, compat, lent)?;
+    if len > LONGEST {
+        return Err(RereadError::NormalText(Refusal::TooLong));
+    }
+    counts_within(counts, words, ids).map_err(RereadError::NormalText)
 }
 
-// Writes the normal text of s under compat, and reads it under other. A refusal changes no lent byte and no lent word.
+// Writes the normal text of s under compat, and reads it under other. A refusal changes no lent byte and no lent word. The words are lent apart,
+// those of comparators and those of identifiers, as 01 has them.
+#[tactic(auto, using(crate::proofs::Rereading::rereading))]
 pub fn read_normal_text(
     s: &[u8],
     compat: Compat,
@@ -124,7 +119,7 @@ fn compare(s: &[u8], compat: Compat, t: &[u8], other: Compat, a: &mut [u8], b: &
     a[..n] == b[..k]
 }
 
-// The first refusal of the two, if there is one: whether both normal texts fit.
+// The first refusal of the two, if there is one: whether both normal texts fit. Here as in the calls a text and its mode are apart, as C passes them.
 fn check_both(
     s: &[u8],
     compat: Compat,
@@ -142,6 +137,7 @@ fn check_both(
 
 // Whether the readings of s under compat and of t under other are equal, by their normal texts, which are written at the start of a and of b.
 // A refusal changes no lent byte.
+#[tactic(auto, using(crate::proofs::Comparing::written_ways))]
 pub fn equal_readings(
     s: &[u8],
     compat: Compat,

@@ -15,9 +15,9 @@ use Rattle.rules.specs.Version as R
 use Rattle.version.specs.Views.{version_is}
 use Rattle.version.specs.declared.Version.{Version}
 use Rattle.shelf_rules.specs.Shelf.{count_in, shelf_in, entry_fits, first_fit_call}
-use Rattle.entries.specs.Views.{entries_of, row_at, IsFirst}
+use Rattle.entries.specs.Views.{entries_of, OfShelf, row_at, IsFirst}
 use Rattle.entries.specs.declared.entries.Entries.{Entries}
-use Rattle.entries.proofs.Counting.{OfShelf, not_shelf, shelf_rows}
+use Rattle.entries.proofs.Counting.{not_shelf, shelf_rows}
 use Rattle.entries.proofs.Finding.{first_row}
 use Rattle.first_fit.specs.Views.{fit_of}
 

@@ -9,28 +9,29 @@ ghost use Rattle.version.specs.Views.{version_is};
 ghost use Rattle.first_fit.specs.Views.{fit_of};
 
 use admission::admits_held;
-use entries::{Entries, TEXT_BYTES};
+use entries::{Entries, MODE, TEXT, TEXT_BYTES, TEXT_LENGTH};
 use range::Compat;
 use refusals::Refusal;
 use version::{Version, read_version};
 
-// Whether the text of an entry's bytes admits the version.
+// Whether the text of an entry's bytes, each where 02 (N1) places it, admits the version.
 #[tactic(auto, using(crate::proofs::FitLaws::entry_fitting))]
 pub fn entry_fits(row: &[u8], v: &Version<'_>) -> bool
     requires { length row.now ≡ entry_width }
     ensures { result ≡ entry_fits admits (version_is v.now) row.now }
 {
-    let n = usize::from(row[3]);
+    let n = usize::from(row[TEXT_LENGTH]);
     if n > TEXT_BYTES {
         return false;
     }
-    match Compat::try_from(row[2]) {
-        Ok(compat) => admits_held(&row[4..4 + n], compat, v),
+    // `is_ok_and` was tried: the check did not find what its closure answers.
+    match Compat::try_from(row[MODE]) {
+        Ok(compat) => admits_held(&row[TEXT..TEXT + n], compat, v),
         Err(_) => false,
     }
 }
 
-// The part code of the first entry whose text admits the version text t.
+// The part code of the first entry whose text admits the version text t. In the manner of `lookup`, where stands why the two are not one.
 pub fn first_fit(shelf: &[u8], t: &[u8]) -> Result<Option<u16>, Refusal>
     ensures { fit_of result ≡ first_fit_call admits t.now shelf.now }
 {

@@ -81,3 +81,5 @@ digits_lem s r w e j = go (read_number s) refl e
             let g : w ≡ before s t = cc in
             let n : length w + length r ≡ length s = rw (g, i) (before-length s t l) in
             cc
+
+pub ruleset identifiers = (word_lem, number_lem, digits_lem)

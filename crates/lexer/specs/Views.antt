@@ -1,17 +1,16 @@
 -- What the code hands back of a reading: a number as 64 bits hold it, and what is left.
 -- Assumes nothing.
-use Rattle.std.specs.Prelude.{ℕ, ◌+◌, ◌*◌, ◌-◌, List, ◌∷◌, Bool, leb, length, take, drop, Option, Some, None}
+use Rattle.std.specs.Prelude.{ℕ, ◌+◌, ◌*◌, ◌-◌, List, [], ◌∷◌, Bool, leb, length, take, drop, Option, Some, None}
 use Rattle.std.specs.Borrow.{Bor}
 use Rattle.rules.specs.Bytes.{is_digit, is_sign, value, largest, pick}
 use Rattle.rules.specs.Syntax as S
-use Rattle.rules.specs.Parse.{Result, fail, ok, ◌then◌, all, one_of, count, read_identifier, found_in}
+use Rattle.rules.specs.Parse.{Result, fail, ok, ◌then◌, all, one_of, count, read_identifier, list_of, found_in}
 use Rattle.lexer.specs.declared.Number.{Number}
 use Rattle.rules.specs.Version.{read_after_dot}
 use Rattle.rules.proofs.Results.{Gives}
 use Rattle.rules.proofs.Left.{Behind}
 use Rattle.lexer.specs.declared.Identifier.{Identifier}
 use Rattle.lexer.specs.declared.Identifiers.{Identifiers}
-use Rattle.lexer.specs.declared.Qualifier.{Qualifier}
 
 -- what is left behind the bytes of a class
 abbrev pub rest : (ℕ → Bool) → List ℕ → List ℕ
@@ -78,26 +77,33 @@ unfoldable pub read_signed : List ℕ → Result (List S.Identifier)
 unfolding read_series
 read_signed s = one_of is_sign s then λ c t. read_series read_identifier t
 
--- how many there are
-abbrev pub counted : {A : Type 0} → Result (List A) → Result ℕ
-counted fail = fail
-counted (ok l r) = ok (length l) r
+-- how many there are, and which they are
+abbrev pub series_of : {A : Type 0} → Result (List A) → Result (ℕ × List A)
+series_of fail = fail
+series_of (ok l r) = ok (length l, l) r
 
-abbrev pub identifiers_is : Identifiers → Result ℕ
-identifiers_is i = ok i.count i.left.now
+-- those that a text begins with
+abbrev pub found_by : {A : Type 0} → (List ℕ → Result A) → List ℕ → List A
+found_by f t = list_of (read_series f t)
 
-abbrev pub identifiers_in : Option Identifiers → Result ℕ
-identifiers_in None = fail
-identifiers_in (Some i) = identifiers_is i
+abbrev pub series_in : {A : Type 0} → (List ℕ → Result A) → Option Identifiers → Result (ℕ × List A)
+series_in f None = fail
+series_in f (Some i) = ok (i.count, found_by f i.text.now) i.left.now
 
--- how many identifiers a qualifier has, and which they are
-abbrev pub qualifier_of : Result (List S.Identifier) → Result (ℕ × List S.Identifier)
-qualifier_of fail = fail
-qualifier_of (ok l r) = ok (length l, l) r
+-- the identifiers of a range
+abbrev pub qualifier_is : Identifiers → Result (ℕ × List S.Identifier)
+qualifier_is i = ok (i.count, found_in i.text.now) i.left.now
 
-abbrev pub qualifier_is : Qualifier → Result (ℕ × List S.Identifier)
-qualifier_is q = ok (q.count, found_in q.identifiers.now) q.left.now
-
-abbrev pub qualifier_in : Option Qualifier → Result (ℕ × List S.Identifier)
+abbrev pub qualifier_in : Option Identifiers → Result (ℕ × List S.Identifier)
 qualifier_in None = fail
-qualifier_in (Some q) = qualifier_is q
+qualifier_in (Some i) = qualifier_is i
+
+-- the text that identifiers begin, as it is given: where there are none, it is empty
+abbrev pub begun : {A : Type 0} → List A → List ℕ → List ℕ
+begun [] t = []
+begun (a ∷ l) t = t
+
+-- behind what was read, if anything was
+abbrev pub on_rest : {A : Type 0} → (List ℕ → List ℕ) → Result A → List ℕ
+on_rest f fail = []
+on_rest f (ok a r) = f r

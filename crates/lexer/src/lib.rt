@@ -2,22 +2,17 @@
 // place on, and hands back what is left behind what it read, or nothing where it read nothing.
 #![tactic(auto)]
 
-ghost use Rattle.std.specs.Prelude.{◌≡◌, ◌+◌, ◌<◌, ◌≤◌, ℕ, Bool, List, true, length, IfSome};
+ghost use Rattle.std.specs.Prelude.{◌≡◌, ◌+◌, ◌<◌, ◌≤◌, ℕ, Bool, List, true, length, drop, IfSome};
 ghost use Rattle.rules.specs.Bytes.{bytes, is_space, is_digit, is_letter, is_word, is_wild, is_sign};
 ghost use Rattle.rules.specs.Syntax.{Identifier};
-ghost use Rattle.rules.specs.Parse.{Result, count, skip, all, literal, read_number, read_identifier, read_qualifier};
+ghost use Rattle.rules.specs.Parse.{Result, count, skip, literal, read_number, read_identifier, read_qualifier, list_of};
 ghost use Rattle.rules.specs.Version.{read_after_dot};
 ghost use Rattle.rules.proofs.Left.{identifier-behind};
-ghost use Rattle.lexer.specs.Views.{rest, rest_in, rest_of, number_in, number_of, pushed, digits_value, before, identifier_in, Takes, counted, identifiers_is, identifiers_in, read_series, read_signed, qualifier_is, qualifier_in, qualifier_of};
+ghost use Rattle.lexer.specs.Views.{rest, rest_in, rest_of, number_in, number_of, pushed, digits_value, before, identifier_in, Takes, read_series, series_of, series_in, read_signed, qualifier_is, qualifier_in, begun};
 
 // ---- classes of bytes
 
-pub fn is_space(b: u8) -> bool
-    ensures { result ≡ is_space b }
-{
-    matches!(b, b' ' | b'\t')
-}
-
+// No runs are read of the first three; a `Class` for each would be longer than its function.
 #[tactic(auto, unfolding(rules::specs::Bytes::is_letter))]
 pub fn is_letter(b: u8) -> bool
     ensures { result ≡ is_letter b }
@@ -37,12 +32,22 @@ pub fn is_sign(b: u8) -> bool
     matches!(b, b'-' | b'+')
 }
 
-// A class of the bytes that identifiers are made of.
+// A class of bytes of which runs are read.
 pub trait Class {
     ghost class: { ℕ → Bool };
 
     fn has(b: u8) -> bool
         ensures { result ≡ class b };
+}
+
+pub struct Space;
+
+impl Class for Space {
+    ghost class = { is_space };
+
+    fn has(b: u8) -> bool {
+        matches!(b, b' ' | b'\t')
+    }
 }
 
 pub struct Digit;
@@ -69,20 +74,6 @@ impl Class for Word {
 }
 
 // ---- runs of a class
-
-#[tactic(auto, unfolding(rules::specs::Parse::count))]
-pub fn skip_spaces(s: &[u8]) -> &[u8]
-    ensures { result.now ≡ skip s.now }
-{
-    let mut left = s;
-    while let [b, behind @ ..] = left {
-        if !is_space(*b) {
-            return left;
-        }
-        left = behind;
-    }
-    left
-}
 
 // The first bytes of the class, up to 65,535: how many, counted in 16 bits (02, N5), and what is left behind them.
 #[tactic(auto, unfolding(rules::specs::Parse::count))]
@@ -115,6 +106,21 @@ pub fn skip_run<C: Class>(s: &[u8]) -> &[u8]
     }
 }
 
+// By a loop of its own, since spaces need no count of 16 bits.
+#[tactic(auto, unfolding(rules::specs::Parse::count))]
+pub fn skip_spaces(s: &[u8]) -> &[u8]
+    ensures { result.now ≡ skip s.now }
+{
+    let mut left = s;
+    while let [b, behind @ ..] = left {
+        if !Space::has(*b) {
+            return left;
+        }
+        left = behind;
+    }
+    left
+}
+
 // ---- numbers
 
 // A number's value, where it is not too large, and what is left behind it.
@@ -133,7 +139,7 @@ fn push(value: Option<u64>, digit: u8) -> Option<u64>
     value?.checked_mul(10)?.checked_add(u64::from(digit - b'0'))
 }
 
-// The digits that s begins with.
+// The digits that s begins with. The library's `parse` reads a whole `&str`, and would not say where the digits end.
 #[tactic(auto, using(crate::proofs::Numbers::digits), unfolding(rules::specs::Parse::count))]
 fn read_digits(s: &[u8]) -> Number<'_>
     ensures value { result.value ≡ digits_value s.now }
@@ -166,6 +172,7 @@ pub fn read_number(s: &[u8]) -> Option<Number<'_>>
 }
 
 // These bytes.
+#[tactic(auto, using(crate::proofs::Literals::literal_lem))]
 pub fn skip_bytes<'a>(s: &'a [u8], w: &[u8]) -> Option<&'a [u8]>
     ensures { rest_in result ≡ rest_of (literal w.now s.now) }
 {
@@ -191,7 +198,7 @@ pub fn read_dot_number(s: &[u8]) -> Option<Number<'_>>
     read_number(skip_dot(s)?)
 }
 
-// A number that is not read.
+// A number whose value is not computed: `read_number` would.
 #[tactic(auto, unfolding(crate::proofs::Opened::readers))]
 pub fn skip_number(s: &[u8]) -> Option<&[u8]>
     ensures { rest_in result ≡ rest_of (read_number s.now) }
@@ -205,14 +212,14 @@ pub fn skip_number(s: &[u8]) -> Option<&[u8]>
 
 // ---- identifiers
 
-// A number, or a text by its bytes.
+// A number, or a text by its bytes. No two are compared by a derived order or equality: precedence says how they compare.
 #[derive(Clone, Copy)]
 pub enum Identifier<'a> {
     Number(u64),
     Text(&'a [u8]),
 }
 
-// The bytes of s before what is left of it.
+// The bytes of s before what is left of it: by a length less another, since no pattern splits a slice by what is behind.
 pub fn before<'a>(s: &'a [u8], left: &[u8]) -> &'a [u8]
     requires { length left.now ≤ length s.now }
     ensures { result.now ≡ before s.now left.now }
@@ -220,24 +227,26 @@ pub fn before<'a>(s: &'a [u8], left: &[u8]) -> &'a [u8]
     &s[..s.len() - left.len()]
 }
 
-#[tactic(auto, unfolding(crate::proofs::Opened::readers))]
+#[tactic(auto, using(crate::proofs::FirstBytes::identifiers), unfolding(crate::proofs::Opened::readers))]
 pub fn read_identifier(s: &[u8]) -> Option<(Identifier<'_>, &[u8])>
     ensures { identifier_in result ≡ read_identifier s.now }
 {
-    if let [b, behind @ ..] = s {
-        if is_letter(*b) {
+    match s {
+        [b, behind @ ..] if is_letter(*b) => {
             let left = skip_run::<Word>(behind);
-            return Some((Identifier::Text(before(s, left)), left));
+            Some((Identifier::Text(before(s, left)), left))
         }
-    }
-    let n = read_number(s)?;
-    match n.value {
-        Some(value) => Some((Identifier::Number(value), n.left)),
-        None => Some((Identifier::Text(before(s, n.left)), n.left)),
+        _ => {
+            let n = read_number(s)?;
+            match n.value {
+                Some(value) => Some((Identifier::Number(value), n.left)),
+                None => Some((Identifier::Text(before(s, n.left)), n.left)),
+            }
+        }
     }
 }
 
-// An identifier that is not read.
+// An identifier whose value is not computed: `read_identifier` would.
 #[tactic(auto, unfolding(crate::proofs::Opened::readers))]
 pub fn skip_identifier(s: &[u8]) -> Option<&[u8]>
     ensures { rest_in result ≡ rest_of (read_identifier s.now) }
@@ -277,10 +286,11 @@ impl Reader for Ranges {
     ghost takes = { identifier-behind };
 }
 
-// How many identifiers there are, and what is left behind them.
+// How many identifiers with dots between there are, the text that they begin, and what is left behind them.
 #[derive(Clone, Copy)]
 pub struct Identifiers<'a> {
     pub count: usize,
+    pub text: &'a [u8],
     pub left: &'a [u8],
 }
 
@@ -292,74 +302,51 @@ pub fn skip_after_dot<R: Reader>(s: &[u8]) -> Option<&[u8]>
     R::skip(skip_dot(s)?)
 }
 
-// A dot and an identifier, as often as they follow.
-#[tactic(auto, using(crate::proofs::Series::repeats))]
-fn skip_dotted<R: Reader>(s: &[u8]) -> Identifiers<'_>
-    ensures answer { identifiers_is result ≡ counted (all (read_after_dot R.reads) s.now) }
-    ensures within { result.count + length result.left.now ≤ length s.now }
+// Identifiers with dots between. The count and what is left are bounded together (`within`, here and in the two below), for the sums over a text; the
+// struct has not the text that bounds them.
+#[tactic(auto, using(crate::proofs::Series::series))]
+pub fn skip_identifiers<R: Reader>(s: &[u8]) -> Option<Identifiers<'_>>
+    ensures answer { series_in R.reads result ≡ series_of (read_series R.reads s.now) }
+    ensures text { IfSome result (λ found. found.text ≡ s.entry) }
+    ensures within { IfSome result (λ found. found.count + length found.left.now ≤ length s.now) }
 {
-    let mut count = 0;
-    let mut left = s;
+    let mut left = R::skip(s)?;
+    // By hand: an iterator's `count` would not hand on what is left behind the last one.
+    let mut count = 1;
     while let Some(behind) = skip_after_dot::<R>(left) {
         count += 1;
         left = behind;
     }
-    Identifiers { count, left }
-}
-
-// Identifiers with dots between.
-#[tactic(auto, using(crate::proofs::Series::series))]
-pub fn skip_identifiers<R: Reader>(s: &[u8]) -> Option<Identifiers<'_>>
-    ensures answer { identifiers_in result ≡ counted (read_series R.reads s.now) }
-    ensures within { IfSome result (λ found. found.count + length found.left.now ≤ length s.now) }
-{
-    let first = R::skip(s)?;
-    let further = skip_dotted::<R>(first);
     Some(Identifiers {
-        count: 1 + further.count,
-        left: further.left,
+        count,
+        text: s,
+        left,
     })
-}
-
-// How many identifiers a qualifier has, the text that they begin, and what is left behind them.
-#[derive(Clone, Copy)]
-pub struct Qualifier<'a> {
-    pub count: usize,
-    pub identifiers: &'a [u8],
-    pub left: &'a [u8],
 }
 
 // `-` or `+`, then identifiers with dots between.
 #[tactic(auto, using(crate::proofs::Series::signed))]
-fn skip_signed(s: &[u8]) -> Option<Qualifier<'_>>
-    ensures answer { qualifier_in result ≡ qualifier_of (read_signed s.now) }
+fn skip_signed(s: &[u8]) -> Option<Identifiers<'_>>
+    ensures answer { qualifier_in result ≡ series_of (read_signed s.now) }
+    ensures text { IfSome result (λ found. found.text.now ≡ drop 1 s.now) }
     ensures within { IfSome result (λ found. found.count + length found.left.now ≤ length s.now) }
 {
     match s {
-        [b, identifiers @ ..] if is_sign(*b) => {
-            let found = skip_identifiers::<Ranges>(identifiers)?;
-            Some(Qualifier {
-                count: found.count,
-                identifiers,
-                left: found.left,
-            })
-        }
+        [b, identifiers @ ..] if is_sign(*b) => skip_identifiers::<Ranges>(identifiers),
         _ => None,
     }
 }
 
-// A sign without identifiers is left.
+// A sign without identifiers is left: as in the rules, the qualifier is read then too, and has none.
 #[tactic(auto, using(crate::proofs::Series::qualifiers))]
-pub fn skip_qualifier(s: &[u8]) -> Qualifier<'_>
-    ensures answer { qualifier_is result ≡ qualifier_of (read_qualifier s.now) }
+pub fn skip_qualifier(s: &[u8]) -> Identifiers<'_>
+    ensures answer { qualifier_is result ≡ series_of (read_qualifier s.now) }
+    ensures text { result.text.now ≡ begun (list_of (read_qualifier s.now)) (drop 1 s.now) }
     ensures within { result.count + length result.left.now ≤ length s.now }
 {
-    match skip_signed(s) {
-        Some(found) => found,
-        None => Qualifier {
-            count: 0,
-            identifiers: &[],
-            left: s,
-        },
-    }
+    skip_signed(s).unwrap_or(Identifiers {
+        count: 0,
+        text: &[],
+        left: s,
+    })
 }

@@ -14,9 +14,9 @@ use Rattle.shelf_rules.specs.Lookup.{kept_fits, lookup_call}
 use Rattle.triples.specs.Views.{triple_is, bounds_is}
 use Rattle.triples.specs.declared.Triple.{Triple}
 use Rattle.triples.specs.declared.Bounds.{Bounds}
-use Rattle.entries.specs.Views.{entries_of, row_at, kept_at, IsFirst}
+use Rattle.entries.specs.Views.{entries_of, OfShelf, row_at, kept_at, IsFirst}
 use Rattle.entries.specs.declared.entries.Entries.{Entries}
-use Rattle.entries.proofs.Counting.{OfShelf, not_shelf, shelf_rows, shelf_kepts}
+use Rattle.entries.proofs.Counting.{not_shelf, shelf_rows, shelf_kepts}
 use Rattle.entries.proofs.Finding.{first_kept_row}
 use Rattle.first_fit.specs.Views.{fit_of}
 

@@ -16,7 +16,8 @@ use refusals::Refusal;
 use triples::Triple;
 use version::{Version, read_version};
 
-// Whether the triples of the entry at k enclose the version's, and its text admits it.
+// Whether the triples of the entry at k enclose the version's, and its text admits it; both are found by k, as 02 lays out the shelf. A `From<&Version>` for Triple would
+// make triples know Version, or version know Triple, for this one place.
 fn kept_fits(entries: Entries, k: usize, v: &Version<'_>) -> bool
     requires entry_width_in_bounds { 2 + entry_width * k + entry_width ≤ length entries.bytes.now }
     requires kept_width_in_bounds { kept_place + kept_width * k + kept_width ≤ length entries.bytes.now }
@@ -26,6 +27,9 @@ fn kept_fits(entries: Entries, k: usize, v: &Version<'_>) -> bool
     entries.kept(k).encloses(triple) && entry_fits(entries.row(k), v)
 }
 
+// In the manner of first_fit: what is the same are the two readers that refuse, and a function of them with the test as a parameter would have to name the entries and the
+// version in the test's own contract.
+//
 // The part code of the first entry whose kept triples enclose the triple of the version text t, and whose text admits it.
 pub fn lookup(shelf: &[u8], t: &[u8]) -> Result<Option<u16>, Refusal>
     ensures { fit_of result ≡ lookup_call admits t.now shelf.now }

@@ -2,6 +2,10 @@
 // identifier bytes call returns 0, or the number of the refusal, and leaves its answer where it is told to. `maluwesi_c` exports each under its name,
 // which begins with the library's, since it is the whole program's. The calls that stand on these are in `maluwesi_equality`, and the shelf's in
 // `maluwesi_shelf`.
+//
+// The numbers for modes and refusals, the out-parameters, place 0 for the empty part, a place and a length for a text, and one function for each call,
+// with and without lent memory, are what C needs of 01's calls (bindings/c/maluwesi.h). Each function begins with the mode by itself: `?` cannot hand back a number, what is left in
+// the out-parameters differs by call, and a function over a closure for the rest would take a second one for that.
 #![tactic(auto)]
 
 ghost use Rattle.std.specs.Prelude.{◌≡◌, length, take, drop};
@@ -19,6 +23,7 @@ use reading::read;
 
 // ---- the reading
 
+#[tactic(auto, using(crate::proofs::Exporting::unknown))]
 pub fn maluwesi_count(
     text: &[u8],
     mode: u8,
@@ -35,6 +40,7 @@ pub fn maluwesi_count(
     put_counts(count(text, compat), ranges, comparators, identifiers)
 }
 
+#[tactic(auto, using(crate::proofs::Exporting::unknown))]
 pub fn maluwesi_read(
     text: &[u8],
     mode: u8,
@@ -79,6 +85,7 @@ pub fn maluwesi_identifier_bytes(
 
 // ---- the normal text
 
+#[tactic(auto, using(crate::proofs::Exporting::unknown))]
 pub fn maluwesi_normal_text_len(text: &[u8], mode: u8, lent: usize, len: &mut usize) -> u64
     ensures { length_is result len.new ≡ normal_text_outcome (under mode (λ m. normal_text_call m text.now lent)) }
 {
@@ -89,6 +96,7 @@ pub fn maluwesi_normal_text_len(text: &[u8], mode: u8, lent: usize, len: &mut us
     put_length(normal_text_len(text, compat, lent), len)
 }
 
+#[tactic(auto, using(crate::proofs::Exporting::unknown))]
 pub fn maluwesi_normal_text(text: &[u8], mode: u8, out: &mut [u8], len: &mut usize) -> u64
     ensures answer { length_is result len.new ≡ normal_text_outcome (under mode (λ m. normal_text_call m text.now (length out.old))) }
     ensures bytes { out.new ≡ bytes_after (under mode (λ m. normal_text_call m text.now (length out.old))) out.old }
@@ -103,6 +111,7 @@ pub fn maluwesi_normal_text(text: &[u8], mode: u8, out: &mut [u8], len: &mut usi
 
 // ---- admission
 
+#[tactic(auto, using(crate::proofs::Exporting::unknown))]
 pub fn maluwesi_admit(text: &[u8], mode: u8, version: &[u8], admitted: &mut u8) -> u64
     ensures { verdict_is result admitted.new ≡ verdict (under mode (λ m. admission_call m text.now version.now)) }
 {

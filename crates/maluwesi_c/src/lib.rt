@@ -1,5 +1,6 @@
 // The calls of `maluwesi` as C finds them: a static library, since one crate is not built as a library and for C. Each export calls the function of
-// its name with what it is passed, and promises what that one promises.
+// its name with what it is passed, and promises what that one promises. That each stands here once more, and numbers, out-parameters and places for
+// values, are what C asks for.
 #![tactic(auto)]
 
 ghost use Rattle.std.specs.Prelude.{◌≡◌, length, take, drop};

@@ -42,6 +42,8 @@ module _ (k l : ℕ) where
     pub both-modes : (m' : E.Compat) → some m' ≡ E.mode_from l → accepted (m, m') ≡ modes_of k l
     both-modes m' i = ap (modes_from (some m)) i ∙ second
 
+pub ruleset modes = (first-none, second_none, both-modes)
+
 -- ---- the answer, as a number
 
 module _ (k : Counts) (n a b c : ℕ) (e : outcome n a b c ≡ outcome_of (Ok k)) where

@@ -1,5 +1,8 @@
 // The calls of `equality` as Rust and C make them (bindings/), as `maluwesi` has the others. They and the crate that exports them stand apart since
 // they call what those call: in one static library the functions that both call would no longer be compiled into each (docs/DECISIONS.md).
+//
+// The numbers for modes and refusals, 1 or 0 for whose refusal it is, the out-parameters, and one function for each call are what C needs of 01's
+// calls (bindings/c/maluwesi.h). Each call begins with the modes by itself: `?` cannot hand back a number, and what is left in the out-parameters differs.
 #![tactic(auto)]
 
 ghost use Rattle.std.specs.Prelude.{◌≡◌, length};
@@ -16,6 +19,7 @@ use rangeset::Counts;
 
 // ---- the modes
 
+#[tactic(auto, using(crate::proofs::Exporting::modes))]
 fn modes_of(number: u8, other: u8) -> Result<(Compat, Compat), UnknownMode>
     ensures { modes_are result ≡ modes_of number other }
 {
@@ -54,6 +58,7 @@ fn put_reread(
 }
 
 // Writes the normal text under the first mode, and reads it under the other.
+#[tactic(auto, using(crate::proofs::Exporting::neither))]
 pub fn maluwesi_read_normal_text(
     text: &[u8],
     mode: u8,
@@ -83,6 +88,7 @@ pub fn maluwesi_read_normal_text(
 // ---- two texts, compared
 
 // Whether the readings of two texts are equal: 1 or 0 in equal.
+#[tactic(auto, using(crate::proofs::Exporting::neither))]
 pub fn maluwesi_equal_readings(
     text: &[u8],
     mode: u8,

@@ -1,5 +1,6 @@
 // The calls of `maluwesi_equality` as C finds them, in a static library of their own as in `maluwesi_c`: with those in one, the functions that both call
-// would no longer be compiled into each (docs/DECISIONS.md).
+// would no longer be compiled into each (docs/DECISIONS.md). That each stands here once more, and numbers and out-parameters for values, are what C asks
+// for.
 #![tactic(auto)]
 
 ghost use Rattle.std.specs.Prelude.{◌≡◌, length};

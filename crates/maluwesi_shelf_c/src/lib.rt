@@ -1,4 +1,4 @@
-// The calls of `maluwesi_shelf` as C finds them, in a static library of their own as in `maluwesi_c`.
+// The calls of `maluwesi_shelf` as C finds them, in a static library of their own as in `maluwesi_c`: the same names, the same numbers for modes, refusals and places.
 #![tactic(auto)]
 
 ghost use Rattle.std.specs.Prelude.{◌≡◌};

@@ -1,4 +1,5 @@
-// Bytes moved, cleared and filled in lent memory, numbers of one and two bytes, and rows of one width.
+// Bytes moved, cleared and filled in lent memory, numbers of one and two bytes, and rows of one width. The functions take the whole memory and a place in it, and not
+// the part there, since what they promise is so said of the whole memory, which their callers lend on.
 #![tactic(auto)]
 
 ghost use Rattle.std.specs.Prelude.{◌≡◌, ◌++◌, ◌+◌, ◌*◌, ◌-◌, ◌≤◌, ◌<◌, length, take, drop, replicate};
@@ -30,7 +31,8 @@ pub fn put_padded(s: &mut [u8], at: usize, w: &[u8], size: usize)
 
 // ---- numbers of two bytes, the low byte first
 
-// The number that the two bytes from `at` on are.
+// The number that the two bytes from `at` on are. triples has the same for eight bytes: `from_le_bytes` is of no trait of std, and a function over
+// num_traits' `FromBytes` cannot make the array that it takes from a slice.
 #[tactic(auto, using(crate::proofs::Numbers::number_two))]
 pub fn two_at(s: &[u8], at: usize) -> u16
     requires { at + 2 ≤ length s.now }
@@ -50,7 +52,8 @@ pub fn put_two(s: &mut [u8], v: u16)
 
 // ---- rows
 
-// The rows behind the one at k, of n rows, move one place down, and zeros are left where the last one stood.
+// The rows behind the one at k, of n rows, move one place down, and zeros are left where the last one stood. 02 lays out a shelf as rows of one width, so that a row is
+// found by its number.
 #[tactic(auto, using(crate::proofs::RemovalLaws::removed_row))]
 pub fn remove_row(rows: &mut [u8], width: usize, n: usize, k: usize)
     requires k_lt_n { k < n }

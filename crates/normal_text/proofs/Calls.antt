@@ -15,13 +15,17 @@ use Rattle.rules.specs.Answers.{Answer, accepted, refused, reading, reading_outc
 use Rattle.rules.proofs.Accepted.{reading-number}
 use Rattle.rules.proofs.NormalTextCall.{normal_text-accepted, normal-refused, normal-7, normal-accepts}
 use Rattle.passes.specs.Views.{Accepts}
-use Rattle.std.specs.Prelude.{Result, Ok, Err}
+use Rattle.std.specs.Prelude.{Ok, Err}
 use Rattle.refusals.specs.Views.{number_of}
 use Rattle.refusals.specs.declared.Refusal.{Refusal}
 use Rattle.refusals.specs.declared.Refusal.TheVariants as Refusals
 use Rattle.rangeset.specs.Views.{outcome_of}
-use Rattle.rangeset.specs.declared.Counts.{Counts}
-use Rattle.rangeset.proofs.Outcomes.{refusal-number, counted-accepts, refused-reading}
+use Rattle.rangeset.proofs.Outcomes.{refusal-number, counted-reading, refused-reading}
+use Rattle.rangeset.specs.declared.RangeSet.{RangeSet}
+use Rattle.rangeset.specs.Sets.{IsSetOf}
+use Rattle.range.specs.Views.{compat_of}
+use Rattle.range.specs.declared.Compat as Compats
+use Rattle.std.specs.Borrow.{Bor}
 use Rattle.normal_text.specs.Views.{length_of}
 
 module _ (a : Answer (List ℕ)) (r : Refusal) (e : a ≡ refused (number_of r)) where
@@ -50,12 +54,29 @@ module _ (m : Compat) (s : List ℕ) (lent : ℕ) (a : Accepts m s) (n : ℕ) (e
       ap (λ k. length_of (Ok k)) is-length
       ∙ ap normal_text_outcome (sym (normal-accepts m s lent a.reads a.is (omega (arith, is-length))))
 
-module _ (m : Compat) (s : List ℕ) (r : Result Counts Refusal) (e : outcome_of r ≡ reading_outcome (reading m s)) where
-  pub len-refused : (y : Refusal) → r ≡ Err y → (lent : ℕ) → length_of (Err y) ≡ normal_text_outcome (normal_text_call m s lent)
-  len-refused y q lent =
-      refused-result (normal_text_call m s lent) y (normal-refused m s lent (number_of y) (refused-reading m s y (ap outcome_of (sym q) ∙ e)))
+set_accepts : (set : RangeSet) → Accepts (compat_of set.compat) set.text.now
+set_accepts set = let h = counted-reading (compat_of set.compat) set.text.now set.counts set.counted in record { reads = h.reads; is = h.is }
 
-pub ruleset lens = (counted-accepts, len-refused)
+-- the call on a text whose reading is refused, or is this set
+module _ (c : Compats.Compat) (s : Bor (List ℕ)) (lent : ℕ) where
+  pub fit_refused : (y : Refusal) → outcome_of (Err y) ≡ reading_outcome (reading (compat_of c) s.now) → length_of (Err y) ≡ normal_text_outcome (normal_text_call (compat_of c) s.now lent)
+  fit_refused y e =
+      refused-result (normal_text_call (compat_of c) s.now lent) y (normal-refused (compat_of c) s.now lent (number_of y) (refused-reading (compat_of c) s.now y e))
+
+  module _ (set : RangeSet) (i : IsSetOf s c set) (n : ℕ) (e : n ≡ (normal_text_outcome (normal_text (compat_of set.compat) set.text.now)).length) where
+    accepts : Accepts (compat_of c) s.now
+    accepts = rw (i.0, i.1) at (set_accepts set)
+
+    sized : n ≡ (normal_text_outcome (normal_text (compat_of c) s.now)).length
+    sized = rw (i.0, i.1) at e
+
+    pub fit_short : lent < n → length_of (Err Refusals.BytesShort) ≡ normal_text_outcome (normal_text_call (compat_of c) s.now lent)
+    fit_short h = fit-short (compat_of c) s.now lent accepts n sized h
+
+    pub fit_whole : n ≤ lent → length_of (Ok n) ≡ normal_text_outcome (normal_text_call (compat_of c) s.now lent)
+    fit_whole h = fit-whole (compat_of c) s.now lent accepts n sized h
+
+pub ruleset fits = (fit_refused, fit_short, fit_whole)
 
 -- ---- normal_text
 
@@ -112,4 +133,13 @@ module _ (m : Compat) (s out : List ℕ) where
     pub call-bytes : (x : List ℕ) → x ≡ bytes_after (normal_text m s) out → x ≡ bytes_after (normal_text_call m s (length out)) out
     call-bytes x p = p ∙ ap (λ w. bytes_after w out) (normal_text-accepted m s writes.reads writes.is ∙ sym writes.call)
 
-pub ruleset calls = (call-refused, call-accepts, call-room, call-bytes)
+-- of the set that the text is
+module _ (c : Compats.Compat) (s : Bor (List ℕ)) (set : RangeSet) (i : IsSetOf s c set) (out : List ℕ) (n : ℕ)
+    (e : length_of (Ok n) ≡ normal_text_outcome (normal_text_call (compat_of c) s.now (length out))) where
+  pub set_room : (normal_text_outcome (normal_text (compat_of set.compat) set.text.now)).length ≤ length out
+  set_room = rw (i.0, i.1) (call-room (compat_of c) s.now out n e)
+
+  pub set_bytes : (x : List ℕ) → x ≡ bytes_after (normal_text (compat_of set.compat) set.text.now) out → x ≡ bytes_after (normal_text_call (compat_of c) s.now (length out)) out
+  set_bytes x p = call-bytes (compat_of c) s.now out n e x (rw (i.0, i.1) at p)
+
+pub ruleset calls = (call-refused, set_room, set_bytes)

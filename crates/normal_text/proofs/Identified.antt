@@ -7,7 +7,7 @@ use Rattle.rules.specs.Parse.{Result, fail, ok, ◌then◌, all, read_identifier
 use Rattle.rules.specs.NormalText.{spell_identifiers}
 use Rattle.rules.specs.Version.{read_after_dot}
 use Rattle.rules.proofs.Source.{identifiers-taken}
-use Rattle.lexer.specs.Views.{before, counted, read_series}
+use Rattle.lexer.specs.Views.{before, series_of, read_series}
 
 module _ (s : List ℕ) where
   series_is : read_series read_identifier s ≡ read_identifiers s
@@ -18,32 +18,32 @@ module _ (s : List ℕ) where
   unfolding found_in
   found g q = ap list_of q
 
-  pub unnamed : fail ≡ counted (read_series read_identifier s) → [] ≡ spell_identifiers (found_in s)
+  pub unnamed : fail ≡ series_of (read_series read_identifier s) → [] ≡ spell_identifiers (found_in s)
   unfolding spell_identifiers
   unnamed e = go (read_identifiers s) refl (rw series_is at e)
     where
-      go : (g : Result (List Identifier)) → read_identifiers s ≡ g → fail ≡ counted g → [] ≡ spell_identifiers (found_in s)
+      go : (g : Result (List Identifier)) → read_identifiers s ≡ g → fail ≡ series_of g → [] ≡ spell_identifiers (found_in s)
       go fail q e = rw (found fail q)
       go (ok is r) q e = cc
 
-  pub named : (n : ℕ) (r : List ℕ) → ok n r ≡ counted (read_series read_identifier s) → bytes "-" ++ before s r ≡ spell_identifiers (found_in s)
+  pub named : (n : ℕ × List Identifier) (r : List ℕ) → ok n r ≡ series_of (read_series read_identifier s) → bytes "-" ++ before s r ≡ spell_identifiers (found_in s)
   unfolding spell_identifiers read_series ◌then◌
   named n r e = go (read_identifier s) refl
     where
       spelled : (i : Identifier) (is : List Identifier) (t : List ℕ) → read_series read_identifier s ≡ ok (i ∷ is) t → bytes "-" ++ before s r ≡ spell_identifiers (found_in s)
       spelled i is t q =
           let k : read_identifiers s ≡ ok (i ∷ is) t = sym series_is ∙ q in
-          let j : ok n r ≡ counted (ok (i ∷ is) t) = e ∙ ap counted q in
+          let j : ok n r ≡ series_of (ok (i ∷ is) t) = e ∙ ap series_of q in
           let w : r ≡ t = cc in
           rw (w, found (ok (i ∷ is) t) k, identifiers-taken s (i ∷ is) t k)
 
       further : (i : Identifier) (t : List ℕ) → read_identifier s ≡ ok i t → (g : Result (List Identifier)) → all (read_after_dot read_identifier) t ≡ g
           → bytes "-" ++ before s r ≡ spell_identifiers (found_in s)
-      further i t q fail p = let k : read_series read_identifier s ≡ fail = rw (q, p) in let z : ok n r ≡ fail = e ∙ ap counted k in cc
+      further i t q fail p = let k : read_series read_identifier s ≡ fail = rw (q, p) in let z : ok n r ≡ fail = e ∙ ap series_of k in cc
       further i t q (ok is u) p = spelled i is u (rw (q, p))
 
       go : (g : Result Identifier) → read_identifier s ≡ g → bytes "-" ++ before s r ≡ spell_identifiers (found_in s)
-      go fail q = let k : read_series read_identifier s ≡ fail = rw q in let z : ok n r ≡ fail = e ∙ ap counted k in cc
+      go fail q = let k : read_series read_identifier s ≡ fail = rw q in let z : ok n r ≡ fail = e ∙ ap series_of k in cc
       go (ok i t) q = further i t q (all (read_after_dot read_identifier) t) refl
 
 pub ruleset identified = (unnamed, named)

@@ -1,23 +1,26 @@
 -- A pass over a text: what is still to be written behind each step, the bytes counted, and the bytes written.
 -- Assumes nothing.
-use Rattle.std.proofs.Common.{ℕ, ◌≡◌, ◌+◌, ◌*◌, ◌<◌, ◌≤◌, List, [], ◌++◌, length, refl, Option, Some, None, ◌∙◌, ap, sym, arith}
-use Rattle.std.specs.Borrow.{Bor}
+use Rattle.std.proofs.Common.{ℕ, suc, true, ◌≡◌, ◌+◌, ◌*◌, ◌<◌, ◌≤◌, List, [], ◌++◌, length, refl, Option, Some, None, ◌∙◌, ap, sym, arith}
 use Rattle.rules.specs.Expansion as E
 use Rattle.rules.specs.Expansion.{comparators}
 use Rattle.rules.specs.NormalText.{spell}
 use Rattle.rules.specs.Answers.{accepted, longest, reading, normal_text, normal_text_outcome, written, bytes_after}
 use Rattle.rules.specs.Walk as W
-use Rattle.rules.specs.Walk.{spell_after, gap_after, walk_text}
+use Rattle.rules.specs.Walk.{goes_on, spell_after, gap_after, walk_text}
 use Rattle.rules.proofs.Bound.{text-bound}
 use Rattle.rules.proofs.WalkText.{text-push, text-open, expand-text}
 use Rattle.rules.proofs.NormalTextCall.{normal_text-accepted}
-use Rattle.walk.specs.Views.{Stepped, step_at, stage_of, next_is}
-use Rattle.walk.specs.declared.Stage.{Stage}
+use Rattle.walk.specs.Views.{Stepped, step_at, step_is, step_in}
+use Rattle.walk.specs.declared.Step.{Step}
 use Rattle.rows.specs.Put.{Put}
 use Rattle.rows.proofs.Puts.{put-onto, Begins, begins-length, Writing, writing_start, writing-todo, writing-put, writing-next, writing-end}
 use Rattle.passes.specs.Views.{Accepts, step_gives}
-use Rattle.passes.proofs.Turn.{ahead}
-use Rattle.passes.proofs.Passing.{Passing, goes_stage, starting, Passes, passes, passing_end}
+use Rattle.passes.proofs.Turn.{ahead, step_goes}
+use Rattle.passes.proofs.Due.{Due, Awaited, awaited, awaited_due}
+use Rattle.range.specs.Views.{compat_of}
+use Rattle.rangeset.specs.declared.RangeSet.{RangeSet}
+use Rattle.rangeset.proofs.Outcomes.{counted-reading}
+use Rattle.passes.proofs.Passing.{Passing, starting, Passes, passes, passing_end, passing_ends}
 use Rattle.passes.proofs.Folds.{todo, next_at, todo-next, todo-push}
 use Rattle.normal_text.specs.Views.{gap_to}
 
@@ -35,9 +38,9 @@ gap_next W.bad g = refl
 
 -- ---- the step x
 
-module _ (stage : Stage) {m : E.Compat} {left : List ℕ} (g : Passing m (stage_of stage, left)) (gap : W.Gap) {x : Stepped} (e : Some x ≡ step_at m (stage_of stage) left) where
+module _ {m : E.Compat} {n : W.Stage × List ℕ} (g : Passing m n) (t : goes_on n.0 ≡ true) (gap : W.Gap) {x : Stepped} (e : Some x ≡ step_at m n.0 n.1) where
   here : Passes g x
-  here = passes g (goes_stage stage) x e
+  here = passes g t x e
 
   -- the gap behind its comparators
   abbrev behind : W.Gap
@@ -47,12 +50,27 @@ module _ (stage : Stage) {m : E.Compat} {left : List ℕ} (g : Passing m (stage_
   begins =
       record {
         split =
-            ap (todo walk_text (stage_of stage) gap) here.is
-            ∙ todo-push walk_text (λ f y w. spell_after f (comparators y) ++ w) (λ f y. gap_after f (comparators y)) text-push (stage_of stage) gap here.of here.next.coming
+            ap (todo walk_text n.0 gap) here.is
+            ∙ todo-push walk_text (λ f y w. spell_after f (comparators y) ++ w) (λ f y. gap_after f (comparators y)) text-push n.0 gap here.of here.next.coming
             ∙ ap (λ cs. spell_after gap cs ++ walk_text (gap_after gap cs) here.next.coming) (sym here.gives)
             ∙ ap (λ w. spell_after gap (step_gives x) ++ w)
             (todo-next walk_text (λ f. W.bars) text-open behind here.next.walks ∙ ap (λ f. todo walk_text x.next.0 f here.next.coming) (gap_next x.next.0 behind));
       }
+
+-- how many steps there may be still, with the one that a loop holds
+abbrev pub steps_ahead : Option Stepped → ℕ
+steps_ahead None = 0
+steps_ahead (Some x) = suc (ahead x.next)
+
+-- the step behind x is nearer to the end
+steps_fewer : {m : E.Compat} {n : W.Stage × List ℕ} (g : Passing m n) (o : Option Stepped) → o ≡ step_at m n.0 n.1 → steps_ahead o < suc (ahead n)
+steps_fewer g None e = omega arith
+steps_fewer {m} {n} g (Some y) e = let f = (passes g (step_goes m n.0 n.1 y e) y e).fewer in omega arith
+
+-- where there is no step, nothing is to come
+none_coming : {m : E.Compat} {n : W.Stage × List ℕ} (g : Passing m n) (gap : W.Gap) → None ≡ step_at m n.0 n.1 → coming g gap ≡ []
+unfolding walk_text
+none_coming {m} {n} g gap e = let i = passing_ends g e in rw (i, passing_end g i)
 
 -- ---- the whole text
 
@@ -70,12 +88,6 @@ begun m s rs e =
       all = ap spell a.text.is ∙ expand-text m a.text.ranges ∙ ap (todo walk_text W.range W.start) (sym a.all);
       short = omega (arith, text-bound m s rs e, a.text.short);
     }
-
--- nothing is, where the loop ends
-none_coming : {m : E.Compat} {at : Option (Stage × Bor (List ℕ))} (g : Passing m (next_is at)) (gap : W.Gap) → ((n : Stage × Bor (List ℕ)) → at ≡ Some n → ⊥) → coming g gap ≡ []
-unfolding walk_text
-none_coming {at = None} g gap z = rw (passing_end g refl)
-none_coming {at = Some n} g gap z = absurd (z n refl)
 
 normal_length : (m : E.Compat) (s : List ℕ) (rs : E.Reading) → reading m s ≡ accepted rs → (normal_text_outcome (normal_text m s)).length ≡ length (spell rs)
 unfolding normal_text_outcome
@@ -96,33 +108,42 @@ counting_start {m} {s} a =
     let b = begun m s a.reads a.is in
     record { reads = a.reads; is = a.is; pass = b.pass; sum = omega (arith, ap length b.all); short = b.short }
 
-module _ {m : E.Compat} {s : List ℕ} {len : ℕ} {gap : W.Gap} {at : Option (Stage × Bor (List ℕ))} (g : Counting m s len gap (next_is at)) where
-  module _ {stage : Stage} {left : Bor (List ℕ)} (q : at ≡ Some (stage, left)) {x : Stepped} (e : Some x ≡ step_at m (stage_of stage) left.now) where
-    there : Counting m s len gap (stage_of stage, left.now)
-    there = rw q at g
+module _ {m : E.Compat} {s : List ℕ} {len : ℕ} {gap : W.Gap} {o : Option Stepped} (g : Awaited m (Counting m s len gap) o) where
+  module _ {x : Stepped} (q : Some x ≡ o) where
+    counted : Due m (Counting m s len gap) x
+    counted = awaited_due m (Counting m s len gap) o x g q
+
+    sized : len + length (spell_after gap (step_gives x)) ≤ 8 * longest + 7
+    sized = let d = counted in let t = d.holds in omega (arith, t.sum, t.short, begins-length (begins t.pass d.goes gap d.is))
 
     pub counting_room : length (spell_after gap (step_gives x)) < 18446744073709551616
-    counting_room = let t = there in omega (arith, begins-length (begins stage there.pass gap e))
+    counting_room = omega (arith, sized)
 
     pub counting_fits : {k : ℕ} → k ≡ length (spell_after gap (step_gives x)) → len + k < 18446744073709551616
-    counting_fits i = let t = there in omega (arith, begins-length (begins stage there.pass gap e))
+    counting_fits i = omega (arith, sized)
 
-    pub counting_fewer : ahead x.next < ahead (next_is at)
-    counting_fewer = rw q ((here stage there.pass gap e).fewer)
+    module _ {p : Option Stepped} (f : p ≡ step_at m x.next.0 x.next.1) where
+      pub counting_fewer : steps_ahead p < steps_ahead o
+      counting_fewer = let d = counted in let k = steps_fewer (here d.holds.pass d.goes gap d.is).next p f in rw (← q) k
 
-    pub counting_step : {k : ℕ} {h : W.Gap} → k ≡ length (spell_after gap (step_gives x)) → h ≡ gap_to x.next.0 (gap_after gap (step_gives x)) → Counting m s (len + k) h x.next
-    counting_step i j =
-        let t = there in
-        record {
-          reads = t.reads;
-          is = t.is;
-          pass = (here stage t.pass gap e).next;
-          sum = rw j (omega (arith, begins-length (begins stage t.pass gap e)));
-          short = t.short;
-        }
+      pub counting_step : {k : ℕ} {h : W.Gap} → k ≡ length (spell_after gap (step_gives x)) → h ≡ gap_to x.next.0 (gap_after gap (step_gives x))
+          → Awaited m (Counting m s (len + k) h) p
+      counting_step {k} {h} i j =
+          let d = counted in
+          let t = d.holds in
+          awaited m (Counting m s (len + k) h) x.next p
+          (record {
+            reads = t.reads;
+            is = t.is;
+            pass = (here t.pass d.goes gap d.is).next;
+            sum = rw j (omega (arith, t.sum, begins-length (begins t.pass d.goes gap d.is)));
+            short = t.short;
+          })
+          f
 
-  pub counting_end : ((n : Stage × Bor (List ℕ)) → at ≡ Some n → ⊥) → len ≡ (normal_text_outcome (normal_text m s)).length
-  counting_end z = omega (arith, normal_length m s g.reads g.is, ap length (none_coming g.pass gap z))
+  pub counting_end : None ≡ o → len ≡ (normal_text_outcome (normal_text m s)).length
+  counting_end z =
+      let t = g.holds in omega (arith, t.sum, normal_length m s t.reads t.is, ap length (none_coming t.pass gap (z ∙ g.is)))
 
 -- ---- put_text
 
@@ -145,35 +166,53 @@ putting_start {m} {s} {start} a r =
       room = omega (arith, normal_length m s a.reads a.is);
     }
 
-module _ {m : E.Compat} {s start out : List ℕ} {end : ℕ} {gap : W.Gap} {at : Option (Stage × Bor (List ℕ))} (g : Putting m s start out end gap (next_is at)) where
-  module _ {stage : Stage} {left : Bor (List ℕ)} (q : at ≡ Some (stage, left)) {x : Stepped} (e : Some x ≡ step_at m (stage_of stage) left.now) where
-    from : Putting m s start out end gap (stage_of stage, left.now)
-    from = rw q at g
+module _ {m : E.Compat} {s start out : List ℕ} {end : ℕ} {gap : W.Gap} {o : Option Stepped} (g : Awaited m (Putting m s start out end gap) o) where
+  module _ {x : Stepped} (q : Some x ≡ o) where
+    due : Due m (Putting m s start out end gap) x
+    due = awaited_due m (Putting m s start out end gap) o x g q
 
     pub putting_room : end + length (spell_after gap (step_gives x)) ≤ length out
-    putting_room = let f = from in writing-next f.writing (begins stage f.pass gap e) (omega arith)
+    putting_room = let d = due in let f = d.holds in writing-next f.writing (begins f.pass d.goes gap d.is) (omega arith)
 
-    pub putting_fewer : ahead x.next < ahead (next_is at)
-    putting_fewer = rw q ((here stage from.pass gap e).fewer)
+    module _ {p : Option Stepped} (f : p ≡ step_at m x.next.0 x.next.1) where
+      pub putting_fewer : steps_ahead p < steps_ahead o
+      putting_fewer = let d = due in let k = steps_fewer (here d.holds.pass d.goes gap d.is).next p f in rw (← q) k
 
-    pub putting_step : {y : List ℕ} {k : ℕ} {h : W.Gap} → Put out end (spell_after gap (step_gives x)) y k → h ≡ gap_to x.next.0 (gap_after gap (step_gives x)) → Putting m s start y k h x.next
-    putting_step p j =
-        let f = from in
-        record {
-          reads = f.reads;
-          is = f.is;
-          pass = (here stage f.pass gap e).next;
-          writing = rw j (writing-put f.writing (begins stage f.pass gap e) p);
-          room = f.room;
-        }
+      pub putting_step : {y : List ℕ} {k : ℕ} {h : W.Gap} → Put out end (spell_after gap (step_gives x)) y k → h ≡ gap_to x.next.0 (gap_after gap (step_gives x))
+          → Awaited m (Putting m s start y k h) p
+      putting_step {y} {k} {h} i j =
+          let d = due in
+          let t = d.holds in
+          awaited m (Putting m s start y k h) x.next p
+          (record {
+            reads = t.reads;
+            is = t.is;
+            pass = (here t.pass d.goes gap d.is).next;
+            writing = rw j (writing-put t.writing (begins t.pass d.goes gap d.is) i);
+            room = t.room;
+          })
+          f
 
-  module _ (z : (n : Stage × Bor (List ℕ)) → at ≡ Some n → ⊥) where
-    done : Put start 0 (spell g.reads) out end
-    done = writing-end (writing-todo (none_coming g.pass gap z) g.writing)
+  pub putting_end : None ≡ o → out ≡ bytes_after (normal_text m s) start
+  unfolding bytes_after written
+  putting_end z =
+      let t = g.holds in
+      put-onto (writing-end (writing-todo (none_coming t.pass gap (z ∙ g.is)) t.writing)) t.room ∙ ap (λ a. bytes_after a start) (sym (normal_text-accepted m s t.reads t.is))
 
-    pub putting_length : end ≡ (normal_text_outcome (normal_text m s)).length
-    putting_length = omega (arith, normal_length m s g.reads g.is, done.place)
+-- ---- a range set is a text that is accepted, with its first step
 
-    pub putting_bytes : out ≡ bytes_after (normal_text m s) start
-    unfolding bytes_after written
-    putting_bytes = put-onto done g.room ∙ ap (λ a. bytes_after a start) (sym (normal_text-accepted m s g.reads g.is))
+module _ (set : RangeSet) where
+  accepts : Accepts (compat_of set.compat) set.text.now
+  accepts = let h = counted-reading (compat_of set.compat) set.text.now set.counts set.counted in record { reads = h.reads; is = h.is }
+
+  pub counting_first : Awaited (compat_of set.compat) (Counting (compat_of set.compat) set.text.now 0 W.start) (Some (step_is set.first))
+  counting_first = awaited (compat_of set.compat) _ (W.range, set.text.now) _ (counting_start accepts) set.starts
+
+  pub putting_first : (start : List ℕ) → (normal_text_outcome (normal_text (compat_of set.compat) set.text.now)).length ≤ length start
+      → Awaited (compat_of set.compat) (Putting (compat_of set.compat) set.text.now start start 0 W.start) (Some (step_is set.first))
+  putting_first start r = awaited (compat_of set.compat) _ (W.range, set.text.now) _ (putting_start accepts r) set.starts
+
+-- the code's step
+pub none_is : (o : Option Step) → ((x : Step) → o ≡ Some x → ⊥) → None ≡ step_in o
+none_is None z = refl
+none_is (Some x) z = absurd (z x refl)

@@ -7,6 +7,7 @@ use Rattle.rules.specs.Answers.{Length}
 use Rattle.rules.specs.Walk as W
 use Rattle.refusals.specs.declared.Refusal.{Refusal}
 use Rattle.refusals.specs.Views.{number_of}
+use Rattle.rangeset.specs.declared.RangeSet.{RangeSet}
 use Rattle.normal_text.specs.declared.Gap.{Gap}
 
 -- ---- between comparators
@@ -39,3 +40,8 @@ signed (Some w) = bytes "-" ++ w.now
 abbrev pub length_of : Result ℕ Refusal → Length
 length_of (Ok n) = record { refusal = 0; length = n }
 length_of (Err r) = record { refusal = number_of r; length = 0 }
+
+-- with the range set that the text is
+abbrev pub length_with : Result (RangeSet × ℕ) Refusal → Length
+length_with (Ok x) = length_of (Ok x.1)
+length_with (Err r) = length_of (Err r)

@@ -6,16 +6,27 @@ ghost use Rattle.rules.specs.Exported.{verdict};
 ghost use Rattle.rangeset.specs.Views.{outcome_of};
 ghost use Rattle.normal_text.specs.Views.{length_of};
 ghost use Rattle.refusals.specs.Views.{answer_of};
-ghost use Rattle.numbers.specs.Views.{outcome, length_is, verdict_is};
+ghost use Rattle.numbers.specs.Views.{refusal_in, outcome, length_is, verdict_is};
 
 use rangeset::Counts;
 use refusals::Refusal;
 
-// What an exported call answers where the mode's number is none: no refusal of 01 and 02 has it.
+// What an exported call answers where the mode's number is none, since C has no `Result`: no refusal of 01 and 02 has it.
 pub const NO_MODE: u64 = 255;
 
 // ---- the answers
 
+// 0, or the number of the refusal, as C gets it: "a refused call hands back its number and zero counts" (01).
+pub fn number<A>(r: &Result<A, Refusal>) -> u64
+    ensures { result ≡ refusal_in r.now }
+{
+    match r {
+        Ok(_) => 0,
+        Err(refusal) => u64::from(*refusal),
+    }
+}
+
+// C passes a place for each count, and not a struct; so do the calls of `maluwesi` for all that they leave.
 pub fn put_no_counts(ranges: &mut usize, comparators: &mut usize, identifiers: &mut usize)
     ensures ranges_after { ranges.new ≡ 0 }
     ensures comparators { comparators.new ≡ 0 }
@@ -39,28 +50,17 @@ pub fn put_counts(
             *ranges = c.ranges;
             *comparators = c.comparators;
             *identifiers = c.identifiers;
-            0
         }
-        Err(refusal) => {
-            put_no_counts(ranges, comparators, identifiers);
-            u64::from(refusal)
-        }
+        Err(_) => put_no_counts(ranges, comparators, identifiers),
     }
+    number(&r)
 }
 
 pub fn put_length(r: Result<usize, Refusal>, len: &mut usize) -> u64
     ensures { length_is result len.new ≡ length_of r }
 {
-    match r {
-        Ok(written) => {
-            *len = written;
-            0
-        }
-        Err(refusal) => {
-            *len = 0;
-            u64::from(refusal)
-        }
-    }
+    *len = r.unwrap_or(0);
+    number(&r)
 }
 
 // Yes or no.
@@ -68,14 +68,6 @@ pub fn put_length(r: Result<usize, Refusal>, len: &mut usize) -> u64
 pub fn put_verdict(r: Result<bool, Refusal>, yes: &mut u8) -> u64
     ensures { verdict_is result yes.new ≡ verdict (answer_of r) }
 {
-    match r {
-        Ok(answer) => {
-            *yes = u8::from(answer);
-            0
-        }
-        Err(refusal) => {
-            *yes = 0;
-            u64::from(refusal)
-        }
-    }
+    *yes = u8::from(r.unwrap_or(false));
+    number(&r)
 }

@@ -5,27 +5,20 @@
 ghost use Rattle.std.specs.Prelude.{◌≤◌, IfOk, length};
 
 use normal_text::normal_text;
+use printing::{BYTES, IDS, WORDS};
 use range::Compat;
 use rangeset::identifier_bytes;
 use reading::read;
 use refusals::Refusal;
 use rows::COMPARATOR_WORDS;
-use std::env::Env;
 use std::io;
 use std::io::Write;
 use std::time::Clock;
 use streams::{Failure, Output};
 
-// How many bytes are enough for the normal text of every range, and how many words for its comparators and its identifiers.
-const BYTES: usize = 524288;
-
-const WORDS: usize = COMPARATOR_WORDS * 65536;
-
-const IDS: usize = 98304;
-
 // ---- the lines
 
-// The item of an empty range has no bytes.
+// The item of an empty range has no bytes. Both are bytes of a text and no `str`, so no `Display` prints them.
 fn put_line(out: &mut impl Write, comparator: &[u8], item: &[u8]) -> io::Result<()> {
     out.write_all(comparator)?;
     if item.is_empty() {
@@ -36,7 +29,8 @@ fn put_line(out: &mut impl Write, comparator: &[u8], item: &[u8]) -> io::Result<
     out.write_all(b"\n")
 }
 
-// The comparators of the normal text stand in the order of their rows, of which words seven and eight are the item's place and length.
+// The comparators of the normal text stand in the order of their rows. A row is eight words of 01, which are u64, and its seventh and eighth are the
+// item's place and length.
 fn put_lines(out: &mut impl Write, range: &[u8], normal: &[u8], words: &[u64]) -> io::Result<()> {
     let comparators = normal
         .split(|b| *b == b' ')
@@ -51,7 +45,7 @@ fn put_lines(out: &mut impl Write, range: &[u8], normal: &[u8], words: &[u64]) -
 
 // ---- the answer
 
-// The rows of the range, and its normal text, whose length is answered.
+// The rows of the range, and its normal text, whose length is answered. There is no heap, so both are written to memory that is lent.
 fn read_and_spell(
     compat: Compat,
     range: &[u8],
@@ -65,6 +59,7 @@ fn read_and_spell(
     normal_text(range, compat, normal)
 }
 
+// The arrays are parameters: as the fields of one struct, of the one that the call changed it did not prove that the text's length lies within it.
 fn answer(
     out: &mut impl Write,
     compat: Compat,
@@ -75,19 +70,17 @@ fn answer(
 ) -> io::Result<()> {
     match read_and_spell(compat, range, normal, words, ids) {
         Ok(len) => put_lines(out, range, &normal[..len], words),
-        Err(refusal) => writeln!(out, "refused {}", u64::from(refusal)),
+        Err(refusal) => writeln!(out, "refused {refusal}"),
     }
 }
 
-// ---- the arguments
+// ---- the range
 
-fn run(rt: &(impl Env + Print + Clock), compat: Compat) -> io::Result<()> {
-    let mut range = [0u8; 65536];
-    let n = arguments::range(rt, &mut range);
+fn answer_range(rt: &(impl Print + Clock), compat: Compat, range: &[u8]) -> io::Result<()> {
     answer(
         &mut Output(rt),
         compat,
-        &range[..n],
+        range,
         &mut [0u8; BYTES],
         &mut [0u64; WORDS],
         &mut [0u64; IDS],
@@ -95,11 +88,8 @@ fn run(rt: &(impl Env + Print + Clock), compat: Compat) -> io::Result<()> {
 }
 
 fn main(rt: HostRuntime) {
-    match arguments::mode(&rt) {
-        Some(compat) => {
-            let done = run(&rt, compat);
-            streams::tell(&rt, b"origins", done.map_err(Failure::Output));
-        }
-        None => streams::put_usage(&rt, b"origins", b"origins cargo|npm RANGE\n"),
-    }
+    let usage = b"origins cargo|npm RANGE\n";
+    arguments::run(&rt, b"origins", usage, |compat, range| {
+        answer_range(&rt, compat, range).map_err(Failure::Output)
+    });
 }

@@ -6,10 +6,10 @@ use Rattle.rules.specs.Parse.{◌then◌, choose, one_of, literal, read_componen
 use Rattle.rules.specs.Version.{read_after_dot}
 use Rattle.rules.specs.NormalText.{spell_op}
 use Rattle.rules.specs.Answers.{partial_fits}
-use Rattle.partial.specs.Views.{read_dot_wildcard, wild_third, wild_second, wild_first, held}
+use Rattle.partial.specs.Views.{held}
 
 unfoldable pub readers : ⊤
-unfolding ◌then◌ choose one_of literal read_component read_dot after_three after_two after_one read_partial read_after_dot read_dot_wildcard wild_third wild_second wild_first held partial_fits up_to₁ up_to₂ up_to₃ spell_op
+unfolding ◌then◌ choose one_of literal read_component read_dot after_three after_two after_one read_partial read_after_dot held partial_fits up_to₁ up_to₂ up_to₃ spell_op
 readers = tt
 
 -- no identifiers are found in no text

@@ -1,15 +1,15 @@
 -- What the code hands back of a partial: by which kind it is, its numbers as 64 bits hold them, and its identifiers by how many they are and
 -- where they begin.
 -- Assumes nothing.
-use Rattle.std.specs.Prelude.{ℕ, suc, List, [], Bool, true, false, not, leb, ◌||◌, length, Option, Some, None}
+use Rattle.std.specs.Prelude.{ℕ, suc, List, [], Bool, true, false, not, leb, ◌||◌, length, drop, Option, Some, None}
 use Rattle.std.specs.Borrow.{Bor}
-use Rattle.std.proofs.Math.Option.{none}
-use Rattle.rules.specs.Bytes.{bytes, is_wild, largest, pick}
+use Rattle.rules.specs.Bytes.{largest, pick}
 use Rattle.rules.specs.Syntax as S
-use Rattle.rules.specs.Parse.{Result, fail, ok, ◌then◌, one_of, literal, after_three, after_two, after_one, found_in}
+use Rattle.rules.specs.Parse.{Result, fail, ok, read_component, read_dot, read_partial, found_in}
 use Rattle.rules.specs.Expansion as E
 use Rattle.rules.specs.Expansion.{major_of, minor_of, patch_of}
 use Rattle.rules.specs.Answers.{partial_fits}
+use Rattle.lexer.specs.Views.{begun, on_rest}
 use Rattle.partial.specs.declared.PartialKind.{PartialKind}
 use Rattle.partial.specs.declared.PartialKind.TheVariants.{XRangeOnly, MajorOnly, MajorMinor, MajorMinorPatch}
 use Rattle.partial.specs.declared.Partial.{Partial}
@@ -108,23 +108,24 @@ abbrev pub qualified : Held → ℕ → List S.Identifier → Held
 qualified p n is =
     record { kind = p.kind; major = p.major; minor = p.minor; patch = p.patch; large = p.large; over = p.over; count = n; identifiers = is }
 
--- ---- a dot and a wildcard
+-- ---- the text that the identifiers begin: what stands behind the sign, which is behind three components, two, one and none
 
-unfoldable pub read_dot_wildcard : List ℕ → Result ℕ
-read_dot_wildcard s = literal (bytes ".") s then λ u t. one_of is_wild t
+abbrev pub from_two : List ℕ → List ℕ
+from_two s = on_rest (drop 1) (read_dot s)
 
--- ---- a wildcard as the third component, the second, the first, with what follows it
+abbrev pub from_one : List ℕ → List ℕ
+from_one s = on_rest from_two (read_dot s)
 
-unfoldable pub wild_third : List ℕ → Result S.Partial
-unfolding read_dot_wildcard
-wild_third s = read_dot_wildcard s then λ c t. after_three none none none t
+abbrev pub from_start : List ℕ → List ℕ
+from_start s = on_rest from_one (read_component s)
 
-unfoldable pub wild_second : List ℕ → Result S.Partial
-unfolding read_dot_wildcard
-wild_second s = read_dot_wildcard s then λ c t. after_two none none t
+abbrev pub identifiers_read : Result S.Partial → List S.Identifier
+identifiers_read fail = []
+identifiers_read (ok p r) = S.identifiers_of p
 
-unfoldable pub wild_first : List ℕ → Result S.Partial
-wild_first s = one_of is_wild s then λ c t. after_one none t
+-- of the partial that s begins with; where it has no identifiers, empty
+unfoldable pub beginning : List ℕ → List ℕ
+beginning s = begun (identifiers_read (read_partial s)) (from_start s)
 
 -- ---- the methods of a partial
 

@@ -2,7 +2,7 @@
 // missing is zero; the kind says which were read.
 #![tactic(auto)]
 
-ghost use Rattle.std.specs.Prelude.{◌≡◌, Some, length};
+ghost use Rattle.std.specs.Prelude.{◌≡◌, suc, Some, [], length, IfSome};
 ghost use Rattle.std.proofs.Math.Option.{none};
 ghost use Rattle.rules.specs.Bytes.{is_wild};
 ghost use Rattle.rules.specs.Syntax.{x_range_only};
@@ -10,12 +10,13 @@ ghost use Rattle.rules.specs.Parse.{found_in, one_of, read_component, read_dot, 
 ghost use Rattle.rules.specs.Rows.{op_code};
 ghost use Rattle.rules.specs.NormalText.{spell_op};
 ghost use Rattle.lexer.specs.Views.{rest_in, rest_of};
-ghost use Rattle.partial.specs.Views.{op_of, partial_is, partial_in, partial_of, held, of_components, qualified, wild_third, wild_second, wild_first, read_dot_wildcard, inc_major, inc_minor, inc_patch, zero_minor, zero_patch, no_pre, zero_missing, as_comparator};
+ghost use Rattle.partial.specs.Views.{op_of, partial_is, partial_in, partial_of, held, of_components, qualified, beginning, incremented, too_large, inc_major, inc_minor, inc_patch, zero_minor, zero_patch, no_pre, zero_missing, as_comparator};
 
-use lexer::{Qualifier, read_dot_number, read_number, skip_dot, skip_number, skip_qualifier};
+use lexer::{Identifiers, read_dot_number, read_number, skip_dot, skip_number, skip_qualifier};
 
 // ---- operators
 
+// Associated constants and functions turn an operator into its code and its spelling: the form that 01 asks for.
 #[derive(Clone, Copy, PartialEq, Eq)]
 pub enum Op {
     Lt,
@@ -65,7 +66,7 @@ impl Op {
 // ---- partials
 
 // By how many components were read.
-#[derive(Clone, Copy)]
+#[derive(Clone, Copy, PartialEq, Eq)]
 pub enum PartialKind {
     XRangeOnly,
     MajorOnly,
@@ -73,8 +74,9 @@ pub enum PartialKind {
     MajorMinorPatch,
 }
 
-// A component that was read and is above the largest number is given as that, and marked: large. Where one could not be raised, over. The
-// identifiers are count many, and what the text of that name begins with; where there are none, it is empty.
+// A kind and three numbers by value, as 01 has it in place of `Option` components. A component that was read and is above the largest number is
+// given as that, and marked: large. Where one could not be raised, over. They are marks and no refusals, since 01 refuses a number only once the
+// whole text is known to be a range's. The identifiers are count many, and what the text of that name begins with; where there are none, it is empty.
 #[derive(Clone, Copy)]
 pub struct Partial<'a> {
     pub kind: PartialKind,
@@ -87,7 +89,8 @@ pub struct Partial<'a> {
     pub identifiers: &'a [u8],
 }
 
-// An operator, the numbers, and the identifiers; over as in the partial.
+// An operator, the numbers, and the identifiers; over as in the partial. Five fields are those of `Partial`, and of a version: a struct of them
+// would put its name before each where it is read, and has nothing to do of its own.
 #[derive(Clone, Copy)]
 pub struct Comparator<'a> {
     pub op: Op,
@@ -99,11 +102,26 @@ pub struct Comparator<'a> {
     pub over: bool,
 }
 
+// One more, where that is not too large; hands back the mark `over`, and no refusal, for the reason at `Partial`.
+fn increment(component: &mut u64) -> bool
+    ensures value { component.new ≡ incremented component.old }
+    ensures over { result ≡ too_large (suc component.old) }
+{
+    match component.checked_add(1) {
+        Some(more) => {
+            *component = more;
+            false
+        }
+        None => true,
+    }
+}
+
 impl<'a> Partial<'a> {
     // Of these components, each with nothing where it is above the largest number; those that are missing are 0.
     #[tactic(auto, unfolding(crate::proofs::Opened::nothing))]
     fn new(kind: PartialKind, major: Option<u64>, minor: Option<u64>, patch: Option<u64>) -> Self
-        ensures { partial_is result ≡ of_components kind major minor patch }
+        ensures answer { partial_is result ≡ of_components kind major minor patch }
+        ensures text { result.identifiers.now ≡ [] }
     {
         Partial {
             kind,
@@ -120,20 +138,23 @@ impl<'a> Partial<'a> {
     // No component is read.
     #[tactic(auto, unfolding(crate::proofs::Opened::readers))]
     pub fn zero() -> Self
-        ensures { partial_is result ≡ held x_range_only }
+        ensures answer { partial_is result ≡ held x_range_only }
+        ensures text { result.identifiers.now ≡ [] }
     {
         Partial::new(PartialKind::XRangeOnly, Some(0), Some(0), Some(0))
     }
 
-    // With the identifiers of a qualifier.
-    fn qualified(mut self, qualifier: Qualifier<'a>) -> Self
-        ensures { partial_is result ≡ qualified (partial_is self.entry) qualifier.entry.count (found_in qualifier.entry.identifiers.now) }
+    // With these identifiers.
+    fn with(mut self, found: Identifiers<'a>) -> Self
+        ensures answer { partial_is result ≡ qualified (partial_is self.entry) found.entry.count (found_in found.entry.text.now) }
+        ensures text { result.identifiers ≡ found.entry.text }
     {
-        self.count = qualifier.count;
-        self.identifiers = qualifier.identifiers;
+        self.count = found.count;
+        self.identifiers = found.text;
         self
     }
 
+    // Each field is named: a comparator has neither the kind nor the mark `large`.
     pub fn as_comparator(self, op: Op) -> Comparator<'a>
         ensures { result ≡ as_comparator self.entry op }
     {
@@ -148,72 +169,58 @@ impl<'a> Partial<'a> {
         }
     }
 
+    // 01 asks for methods that hand the partial back, in place of the source's `&mut self` chains; as there, each component has its own. The clause `text`,
+    // here and below: the rules' partials have identifiers and no text, so `Held` does not say that a method hands back the same one.
     pub fn inc_major(mut self) -> Partial<'a>
-        ensures { partial_is result ≡ inc_major (partial_is self.entry) }
+        ensures answer { partial_is result ≡ inc_major (partial_is self.entry) }
+        ensures text { result.identifiers ≡ self.entry.identifiers }
     {
-        if self.major == 18446744073709551615 {
-            self.over = true;
-        } else {
-            self.major += 1;
-        }
+        self.over |= increment(&mut self.major);
         self
     }
 
     pub fn inc_minor(mut self) -> Partial<'a>
-        ensures { partial_is result ≡ inc_minor (partial_is self.entry) }
+        ensures answer { partial_is result ≡ inc_minor (partial_is self.entry) }
+        ensures text { result.identifiers ≡ self.entry.identifiers }
     {
-        if self.minor == 18446744073709551615 {
-            self.over = true;
-        } else {
-            self.minor += 1;
-        }
+        self.over |= increment(&mut self.minor);
         self
     }
 
     pub fn inc_patch(mut self) -> Partial<'a>
-        ensures { partial_is result ≡ inc_patch (partial_is self.entry) }
+        ensures answer { partial_is result ≡ inc_patch (partial_is self.entry) }
+        ensures text { result.identifiers ≡ self.entry.identifiers }
     {
-        if self.patch == 18446744073709551615 {
-            self.over = true;
-        } else {
-            self.patch += 1;
-        }
+        self.over |= increment(&mut self.patch);
         self
     }
 
     pub fn zero_missing(mut self) -> Partial<'a>
-        ensures { partial_is result ≡ zero_missing (partial_is self.entry) }
+        ensures answer { partial_is result ≡ zero_missing (partial_is self.entry) }
+        ensures text { result.identifiers ≡ self.entry.identifiers }
     {
-        let kind = self.kind;
-        match kind {
+        match self.kind {
             PartialKind::XRangeOnly => {
                 self.major = 0;
-                self.minor = 0;
-                self.patch = 0;
-                self
+                self.zero_minor().zero_patch()
             }
-            PartialKind::MajorOnly => {
-                self.minor = 0;
-                self.patch = 0;
-                self
-            }
-            PartialKind::MajorMinor => {
-                self.patch = 0;
-                self
-            }
+            PartialKind::MajorOnly => self.zero_minor().zero_patch(),
+            PartialKind::MajorMinor => self.zero_patch(),
             PartialKind::MajorMinorPatch => self,
         }
     }
 
     pub fn zero_minor(mut self) -> Partial<'a>
-        ensures { partial_is result ≡ zero_minor (partial_is self.entry) }
+        ensures answer { partial_is result ≡ zero_minor (partial_is self.entry) }
+        ensures text { result.identifiers ≡ self.entry.identifiers }
     {
         self.minor = 0;
         self
     }
 
     pub fn zero_patch(mut self) -> Partial<'a>
-        ensures { partial_is result ≡ zero_patch (partial_is self.entry) }
+        ensures answer { partial_is result ≡ zero_patch (partial_is self.entry) }
+        ensures text { result.identifiers ≡ self.entry.identifiers }
     {
         self.patch = 0;
         self
@@ -221,7 +228,8 @@ impl<'a> Partial<'a> {
 
     #[tactic(auto, unfolding(crate::proofs::Opened::nothing))]
     pub fn no_pre(mut self) -> Partial<'a>
-        ensures { partial_is result ≡ no_pre (partial_is self.entry) }
+        ensures answer { partial_is result ≡ no_pre (partial_is self.entry) }
+        ensures text { result.identifiers.now ≡ [] }
     {
         self.count = 0;
         self.identifiers = &[];
@@ -245,10 +253,7 @@ fn skip_wildcard(s: &[u8]) -> Option<&[u8]>
 fn skip_component(s: &[u8]) -> Option<&[u8]>
     ensures { rest_in result ≡ rest_of (read_component s.now) }
 {
-    match skip_wildcard(s) {
-        Some(left) => Some(left),
-        None => skip_number(s),
-    }
+    skip_wildcard(s).or_else(|| skip_number(s))
 }
 
 // A dot and a component.
@@ -257,14 +262,6 @@ fn skip_dot_component(s: &[u8]) -> Option<&[u8]>
     ensures { rest_in result ≡ rest_of (read_dot s.now) }
 {
     skip_component(skip_dot(s)?)
-}
-
-// A dot and a wildcard.
-#[tactic(auto, unfolding(crate::proofs::Opened::readers))]
-fn skip_dot_wildcard(s: &[u8]) -> Option<&[u8]>
-    ensures { rest_in result ≡ rest_of (read_dot_wildcard s.now) }
-{
-    skip_wildcard(skip_dot(s)?)
 }
 
 // Behind the second component.
@@ -289,53 +286,25 @@ fn skip_after_one(s: &[u8]) -> &[u8]
     }
 }
 
-// A wildcard as the third component, and what follows it.
-#[tactic(auto, unfolding(crate::proofs::Opened::readers))]
-fn skip_third(s: &[u8]) -> Option<&[u8]>
-    ensures { rest_in result ≡ rest_of (wild_third s.now) }
-{
-    let left = skip_dot_wildcard(s)?;
-    Some(skip_qualifier(left).left)
-}
-
-// As the second.
-#[tactic(auto, unfolding(crate::proofs::Opened::readers))]
-fn skip_second(s: &[u8]) -> Option<&[u8]>
-    ensures { rest_in result ≡ rest_of (wild_second s.now) }
-{
-    let left = skip_dot_wildcard(s)?;
-    Some(skip_after_two(left))
-}
-
-// As the first.
-#[tactic(auto, unfolding(crate::proofs::Opened::readers))]
-fn skip_first(s: &[u8]) -> Option<&[u8]>
-    ensures { rest_in result ≡ rest_of (wild_first s.now) }
-{
-    let left = skip_wildcard(s)?;
-    Some(skip_after_one(left))
-}
-
 // ---- a partial: each component that is a number is read, up to the first that is none
 
 // A partial, and what is left behind it.
-#[tactic(auto, unfolding(crate::proofs::Opened::readers))]
+#[tactic(auto, using(crate::proofs::Components::partials))]
 pub fn read_partial(s: &[u8]) -> Option<(Partial<'_>, &[u8])>
-    ensures { partial_in result ≡ partial_of (read_partial s.now) }
+    ensures answer { partial_in result ≡ partial_of (read_partial s.now) }
+    ensures text { IfSome result (λ read. read.0.identifiers.now ≡ beginning s.now) }
 {
     let Some(major) = read_number(s) else {
-        let left = skip_first(s)?;
-        return Some((Partial::zero(), left));
+        let left = skip_wildcard(s)?;
+        return Some((Partial::zero(), skip_after_one(left)));
     };
     let Some(minor) = read_dot_number(major.left) else {
-        let left = skip_second(major.left).unwrap_or(major.left);
         let p = Partial::new(PartialKind::MajorOnly, major.value, Some(0), Some(0));
-        return Some((p, left));
+        return Some((p, skip_after_one(major.left)));
     };
     let Some(patch) = read_dot_number(minor.left) else {
-        let left = skip_third(minor.left).unwrap_or(minor.left);
         let p = Partial::new(PartialKind::MajorMinor, major.value, minor.value, Some(0));
-        return Some((p, left));
+        return Some((p, skip_after_two(minor.left)));
     };
     let q = skip_qualifier(patch.left);
     let p = Partial::new(
@@ -344,5 +313,5 @@ pub fn read_partial(s: &[u8]) -> Option<(Partial<'_>, &[u8])>
         minor.value,
         patch.value,
     );
-    Some((p.qualified(q), q.left))
+    Some((p.with(q), q.left))
 }

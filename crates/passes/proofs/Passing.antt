@@ -15,18 +15,21 @@ use Rattle.rules.proofs.Accepted.{Accepted, reads, reading-accepted}
 use Rattle.rules.proofs.Complete.{complete}
 use Rattle.rules.proofs.Tallies.{expand-large, expand-raised}
 use Rattle.rules.proofs.WalkLaws.{text-walk}
+use Rattle.partial.specs.declared.PartialKind.TheVariants.{XRangeOnly, MajorOnly, MajorMinor, MajorMinorPatch}
 use Rattle.walk.specs.Views.{Stepped, step_at, stage_of}
 use Rattle.walk.specs.declared.Stage.{Stage}
 use Rattle.walk.specs.declared.Stage.TheVariants as Stages
 use Rattle.passes.specs.Views.{step_gives}
-use Rattle.passes.proofs.Turn.{concat_push, concat_opening, ahead, ended, turn, turn_stuck, gives_is, count_is, identifiers_are}
+use Rattle.passes.proofs.Turn.{concat_push, concat_opening, ahead, ended, steps_end, turn, turn_stuck, gives_is, count_is, identifiers_are}
 
 -- a step is read at each stage of the code
 pub goes_stage : (st : Stage) → goes_on (stage_of st) ≡ true
 goes_stage Stages.Item = refl
 goes_stage Stages.Range = refl
-goes_stage Stages.Right = refl
-goes_stage Stages.Only = refl
+goes_stage (Stages.Right XRangeOnly) = refl
+goes_stage (Stages.Right MajorOnly) = refl
+goes_stage (Stages.Right MajorMinor) = refl
+goes_stage (Stages.Right MajorMinorPatch) = refl
 
 -- ---- the pieces of an accepted text
 
@@ -147,3 +150,7 @@ module _ {m : E.Compat} {n : W.Stage × List ℕ} (g : Passing m n) (t : goes_on
 -- nothing is to come at the end
 pub passing_end : {m : E.Compat} {n : W.Stage × List ℕ} (g : Passing m n) → n.0 ≡ W.end → g.coming ≡ [] ∷ []
 passing_end g e = let h = ended g.walks e in cc
+
+-- where there is no step any more, that is the end
+pub passing_ends : {m : E.Compat} {n : W.Stage × List ℕ} (g : Passing m n) → None ≡ step_at m n.0 n.1 → n.0 ≡ W.end
+passing_ends g e = steps_end g.walks e

@@ -206,3 +206,22 @@ pub ended : {m : E.Compat} {st : W.Stage} {s : List ℕ} {o : Math.Option (List 
 ended ends e = refl
 ended fails e = cc
 ended (goes h n w) e = let k : goes_on W.end ≡ true = rw e at h in cc
+
+-- where there is a step, the stage goes on
+pub step_goes : (m : E.Compat) (st : W.Stage) (s : List ℕ) (x : Stepped) → Some x ≡ step_at m st s → goes_on st ≡ true
+unfolding W.next
+step_goes m W.item s x e = refl
+step_goes m W.range s x e = refl
+step_goes m W.right s x e = refl
+step_goes m W.only s x e = refl
+step_goes m W.end s x e = cc
+step_goes m W.bad s x e = cc
+
+-- where a reading is still to come and there is no step, the text ends
+pub steps_end : {m : E.Compat} {st : W.Stage} {s : List ℕ} {rs : List (List Piece)} → Walks m st s (some rs) → None ≡ step_at m st s → st ≡ W.end
+steps_end {m} {st} {s} {rs} w e = go (some rs) refl st s w e
+  where
+    go : (o : Math.Option (List (List Piece))) → some rs ≡ o → (st : W.Stage) (s : List ℕ) → Walks m st s o → None ≡ step_at m st s → st ≡ W.end
+    go o i st s ends e = refl
+    go o i st s fails e = cc
+    go o i st s (goes h n v) e = let z = turn_stuck (goes h n v) h e in cc

@@ -1,4 +1,4 @@
--- The writers of a refusal and of an answer: a law for each of their ways.
+-- The writer of an answer: a law for each of its ways.
 -- Assumes nothing.
 use Prim.Native.Nat.{ℕ, ◌+◌, ◌-◌, ◌<◌, ◌≤◌}
 use mathlib.Core.Path.{◌≡◌, refl, sym, subst, ap, ◌∙◌}
@@ -20,19 +20,6 @@ use Rattle.refusals.specs.Views.{number_of}
 use Rattle.refusals.specs.declared.Refusal.{Refusal}
 use Rattle.rangeset.proofs.Outcomes.{refusal-number}
 use Rattle.normal_text.specs.Views.{length_of}
-
--- ---- put_refusal
-
-module _ (l : List ℕ) (at : ℕ) (r : Refusal) (n : ℕ) (e : n ≡ number_of r) where
-  pub refused-room : at + length (spell_answer (refused (number_of r))) ≤ length l → at + length (spell_refusal n) ≤ length l
-  unfolding spell_answer
-  refused-room h = subst (λ j. at + length (spell_refusal j) ≤ length l) (sym e) h
-
-  pub refused-put : (y : List ℕ) (k : ℕ) → Put l at (spell_refusal n) y k → Put l at (spell_answer (refused (number_of r))) y k
-  unfolding spell_answer
-  refused-put y k p = subst (λ j. Put l at (spell_refusal j) y k) e p
-
-pub ruleset refusals = (refused-room, refused-put)
 
 -- ---- put_answer
 
@@ -99,11 +86,14 @@ module _ (m : Compat) (t : List ℕ) where
           unfolding bytes_after written
           unchanged = part-back l at [] (b ∙ ap (λ a. bytes_after a part) (enough ∙ none))
 
-          pub refusal-room : at + length (spell_answer (refused (number_of x))) ≤ length (put_mid at (length l - at) l y)
-          refusal-room = rw (unchanged, ← none) h
+          module _ (n : ℕ) (f : n ≡ number_of x) where
+            pub refusal-room : at + length (spell_refusal n) ≤ length (put_mid at (length l - at) l y)
+            unfolding spell_answer
+            refusal-room = subst (λ j. at + length (spell_refusal j) ≤ length (put_mid at (length l - at) l y)) (sym f) (rw unchanged (rw none at h))
 
-          pub refusal-put : (z : List ℕ) (k : ℕ) → Put (put_mid at (length l - at) l y) at (spell_answer (refused (number_of x))) z k
-              → Put l at (spell_answer (normal_text m t)) z k
-          refusal-put z k p = rw none (rw unchanged at p)
+            pub refusal-put : (z : List ℕ) (k : ℕ) → Put (put_mid at (length l - at) l y) at (spell_refusal n) z k
+                → Put l at (spell_answer (normal_text m t)) z k
+            unfolding spell_answer
+            refusal-put z k p = rw none (subst (λ j. Put l at (spell_refusal j) z k) f (rw unchanged at p))
 
 pub ruleset answers = (answer-fits, answer-put, refusal-room, refusal-put)

@@ -77,7 +77,7 @@ module _ (t l : List ℕ) (h : length (mode_lines t) ≤ length l) where
     unfolding mode_lines
     lines-put y j q = put_then p q
 
-pub ruleset both-lines = (first-room, second-room, lines-put)
+pub ruleset both_lines = (first-room, second-room, lines-put)
 
 -- ---- plainform
 
@@ -86,9 +86,6 @@ module _ (s t l : List ℕ) (e : t ≡ without_newline s) where
     pub long-put : longest_input < length t → Put l 0 (plainform s) y k
     unfolding plainform answer_lines
     long-put h = rw (← e, lt-leb (length t) longest_input h) p
-
-    pub long-within : room ≤ length l → k ≤ length y
-    long-within r = omega (arith, put_same p, p.place)
 
   module _ (h : length t ≤ longest_input) where
     pub short-room : room ≤ length l → length (mode_lines t) ≤ length l
@@ -99,7 +96,4 @@ module _ (s t l : List ℕ) (e : t ≡ without_newline s) where
       unfolding plainform answer_lines
       short-put = rw (← e, le-leb (length t) longest_input h) p
 
-      pub short-within : room ≤ length l → k ≤ length y
-      short-within r = omega (arith, lines-room t h, put_same p, p.place)
-
-pub ruleset programs = (long-put, long-within, short-room, short-put, short-within)
+pub ruleset programs = (long-put, short-room, short-put)

@@ -1,17 +1,15 @@
-// The work of the program `plainform`: a text under each mode, as a line of its normal text or its refusal. Each writer writes from the byte
-// `at` on, and answers the place behind what it wrote.
+// The work of the program `plainform`: a text under each mode, as a line of its normal text or its refusal. The writers are as spelling's writers, for the reasons given
+// there. Those of crates/verdicts have other answers, other bytes round them and another room.
 #![tactic(auto)]
 
 ghost use Rattle.std.specs.Prelude.{◌≡◌, ◌+◌, ◌≤◌, length};
-ghost use Rattle.rules.specs.Answers.{refused, normal_text};
+ghost use Rattle.rules.specs.Answers.{normal_text};
 ghost use Rattle.rules.specs.Plainform.{without_newline, mode_letters, spell_answer, mode_line, mode_lines, plainform, room};
 ghost use Rattle.range.specs.Views.{compat_of};
 ghost use Rattle.rows.specs.Put.{Put};
-ghost use Rattle.refusals.specs.Views.{number_of};
 
 use normal_text::normal_text;
 use range::Compat;
-use refusals::Refusal;
 use spelling::{put_bytes, put_refused};
 
 // How many bytes are enough for the lines of every input: `room` of the rules.
@@ -23,19 +21,15 @@ pub const ROOM: usize = 65562;
 fn without_newline<'a>(input: &'a [u8]) -> &'a [u8]
     ensures { result.now ≡ without_newline input.now }
 {
-    if input.len() == 0 {
-        return input;
+    match input {
+        [front @ .., b'\n'] => front,
+        _ => input,
     }
-    let last = input.len() - 1;
-    if input[last] == b'\n' {
-        return &input[..last];
-    }
-    input
 }
 
 // ---- a line of a mode
 
-// The mode in letters, and a blank.
+// The mode in letters, and a blank. The program `admits` reads the letters among others as words of its command line (crates/arguments).
 fn put_mode(out: &mut [u8], at: usize, compat: Compat) -> usize
     requires { at + length (mode_letters (compat_of compat)) ≤ length out.old }
     ensures { Put out.old at (mode_letters (compat_of compat)) out.new result }
@@ -46,13 +40,6 @@ fn put_mode(out: &mut [u8], at: usize, compat: Compat) -> usize
     }
 }
 
-fn put_refusal(out: &mut [u8], at: usize, refusal: Refusal) -> usize
-    requires { at + length (spell_answer (refused (number_of refusal))) ≤ length out.old }
-    ensures { Put out.old at (spell_answer (refused (number_of refusal))) out.new result }
-{
-    put_refused(out, at, u64::from(refusal))
-}
-
 // The normal text, or the refusal, which is never 7: the bytes that are lent are enough.
 #[tactic(auto, using(crate::proofs::Answering::answers))]
 fn put_answer(text: &[u8], compat: Compat, out: &mut [u8], at: usize) -> usize
@@ -61,7 +48,7 @@ fn put_answer(text: &[u8], compat: Compat, out: &mut [u8], at: usize) -> usize
 {
     match normal_text(text, compat, &mut out[at..]) {
         Ok(len) => at + len,
-        Err(refusal) => put_refusal(out, at, refusal),
+        Err(refusal) => put_refused(out, at, u64::from(refusal)),
     }
 }
 
@@ -78,6 +65,7 @@ fn put_line(text: &[u8], compat: Compat, out: &mut [u8], at: usize) -> usize
 // ---- the program
 
 // The lines of both modes.
+#[tactic(auto, using(crate::proofs::Lines::both_lines))]
 fn put_lines(text: &[u8], out: &mut [u8]) -> usize
     requires { length (mode_lines text.now) ≤ length out.old }
     ensures { Put out.old 0 (mode_lines text.now) out.new result }
@@ -86,7 +74,7 @@ fn put_lines(text: &[u8], out: &mut [u8]) -> usize
     put_line(text, Compat::Npm, out, at)
 }
 
-// What the program writes, at the start of out; answers how many bytes that is.
+// What the program writes, at the start of out; answers how many bytes that is, within those of out, where the program cuts them off.
 #[tactic(auto, using(crate::proofs::Lines::programs))]
 pub fn plainform(input: &[u8], out: &mut [u8]) -> usize
     requires { room ≤ length out.old }

@@ -22,7 +22,7 @@ use version::Prerelease;
 
 // ---- orders
 
-// Whether the operator holds of two that stand so.
+// Whether the operator holds of two that stand so. A test for each operator: a table of functions, or a closure for each, says no less.
 #[tactic(auto, using(crate::proofs::Orders::operators))]
 pub fn holds(op: Op, order: Ordering) -> bool
     ensures { result ≡ Admission.holds (op_of op) (order_of order) }
@@ -38,10 +38,10 @@ pub fn holds(op: Op, order: Ordering) -> bool
 
 // The major, minor and patch number of one against those of another.
 #[tactic(auto, using(crate::proofs::Orders::orders))]
-pub fn compare_triples(a: u64, b: u64, c: u64, d: u64, e: u64, f: u64) -> Ordering
-    ensures { order_of result ≡ (compare_numbers a d or_else compare_numbers b e or_else compare_numbers c f) }
+pub fn compare_triples(a: (u64, u64, u64), b: (u64, u64, u64)) -> Ordering
+    ensures { order_of result ≡ (compare_numbers a.0 b.0 or_else compare_numbers a.1 b.1 or_else compare_numbers a.2 b.2) }
 {
-    (a, b, c).cmp(&(d, e, f))
+    a.cmp(&b)
 }
 
 // ---- identifiers
@@ -61,7 +61,7 @@ fn compare_digits(a: &[u8], b: &[u8]) -> Ordering
     a.len().cmp(&b.len()).then(a.cmp(b))
 }
 
-// Texts of digits stand below the others.
+// Texts of digits stand below the others, so this is not the order of bytes that a derive gives.
 #[tactic(auto, using(crate::proofs::Orders::orders))]
 fn compare_texts(a: &[u8], b: &[u8]) -> Ordering
     ensures { order_of result ≡ compare_texts a.now b.now }
@@ -74,7 +74,7 @@ fn compare_texts(a: &[u8], b: &[u8]) -> Ordering
     }
 }
 
-// A number stands below a text.
+// A number stands below a text. By hand, since the derived order of identifiers would compare two texts by their bytes.
 #[tactic(auto, using(crate::proofs::Orders::orders))]
 fn compare_identifier(a: Identifier<'_>, b: Identifier<'_>) -> Ordering
     ensures { order_of result ≡ compare_identifiers (known a.entry) (known b.entry) }
@@ -105,17 +105,15 @@ fn read_version_identifier(s: &[u8]) -> Option<(Identifier<'_>, &[u8])>
     }
 }
 
-// What is left behind a dot; nothing where there is no dot.
+// What is left behind a dot; no bytes where there is no dot: from none on, the loop below reads no identifier, as from none of an `Option`.
 fn behind_dot(s: &[u8]) -> &[u8]
     ensures { result.now ≡ behind_dot s.now }
 {
-    match skip_dot(s) {
-        Some(left) => left,
-        None => &[],
-    }
+    skip_dot(s).unwrap_or(&[])
 }
 
-// The identifiers that the version text v begins with, against those that the range text s begins with.
+// The identifiers that the version text v begins with, against those that the range text s begins with. `Iterator::cmp` would take two iterators,
+// each a struct with an `impl` and its ghost members, and an `Ord` of `Identifier`, which is lexer's and knows nothing of this order: more than this loop.
 #[tactic(auto, using(crate::proofs::Comparing::comparisons))]
 pub fn compare_identifiers(v: &[u8], s: &[u8]) -> Ordering
     ensures { order_of result ≡ lexicographic compare_identifiers (version_identifiers_in v.now) (found_in s.now) }

@@ -1,31 +1,34 @@
-// Answers and lent memory on standard output, for the program `replay`.
+// Answers and lent memory on standard output, and how much memory is lent, for the programs `replay` and `origins`.
 #![tactic(auto)]
 
 ghost use Rattle.std.specs.Prelude.{Some};
-ghost use Rattle.printing.specs.Views.{length_text, counts_text, answer_text, reread_text};
+ghost use Rattle.printing.specs.Views.{length_text, counts_text, answer_text};
 
-use equality::RereadError;
 use rangeset::Counts;
-use refusals::Refusal;
 use rows::COMPARATOR_WORDS;
 use std::{fmt, io};
 
-// How many comparator words are enough for every text, which has at most a row for each of its bytes and one.
+// How many bytes are enough for the normal text of every range, and how many words for its comparators, which are at most one for each of its bytes and
+// one, and for its identifiers.
+pub const BYTES: usize = 524288;
+
 pub const WORDS: usize = COMPARATOR_WORDS * 65536;
+
+pub const IDS: usize = 98304;
 
 // ---- answers
 
-// What is answered, or 01's number of the refusal.
+// What is answered, or what the error says of itself.
 #[derive(Drop)]
-pub struct Answer<T>(pub Result<T, Refusal>);
+pub struct Answer<T, E>(pub Result<T, E>);
 
-impl<T: fmt::Display> fmt::Display for Answer<T> {
-    ghost output = { λ x. answer_text T.output x.0 };
+impl<T: fmt::Display, E: fmt::Display> fmt::Display for Answer<T, E> {
+    ghost output = { λ x. answer_text T.output E.output x.0 };
 
     fn fmt<W: fmt::Write>(&self, f: &mut fmt::Formatter<W>) -> fmt::Result {
         match &self.0 {
             Ok(answer) => write!(f, "{answer}"),
-            Err(refusal) => write!(f, "{}", u64::from(*refusal)),
+            Err(error) => write!(f, "{error}"),
         }
     }
 }
@@ -59,28 +62,10 @@ impl fmt::Display for Length {
     }
 }
 
-// The counts of a text read again. A refusal of the normal text, and not of the text, says so.
-#[derive(Clone, Copy)]
-pub struct Reread(pub Result<Counts, RereadError>);
-
-impl fmt::Display for Reread {
-    ghost output = { λ x. Some (reread_text x.0) };
-
-    fn fmt<W: fmt::Write>(&self, f: &mut fmt::Formatter<W>) -> fmt::Result {
-        match self.0 {
-            Ok(counts) => write!(f, "{}", Counted(counts)),
-            Err(RereadError::Text(refusal)) => write!(f, "{}", u64::from(refusal)),
-            Err(RereadError::NormalText(refusal)) => {
-                write!(f, "normal text {}", u64::from(refusal))
-            }
-        }
-    }
-}
-
 // ---- lent memory
 
 // How much is shown of lent memory: all, or its end where it is too long to print.
-#[derive(Clone, Copy)]
+#[derive(Clone, Copy, PartialEq, Eq)]
 pub enum Shown {
     Whole,
     End,
@@ -98,7 +83,7 @@ impl Shown {
         }
     }
 
-    // A line of the bytes, or of the last fifteen.
+    // A line of the bytes, or of the last fifteen. They are put as they are, and the words of `put_words` as numbers.
     pub fn put_bytes(self, rt: &impl Print, lent: &[u8]) -> io::Result<()> {
         if let Some(bytes) = self.part(lent, 15) {
             rt.write_all(bytes)?;

@@ -7,7 +7,7 @@ ghost use Rattle.rules.specs.Syntax.{item};
 ghost use Rattle.rules.specs.Parse.{read_prefix};
 ghost use Rattle.rules.specs.Expansion.{mode_number, mode_from, expand_eq, caret_raises, expand_caret, expand_tilde, expand_bare, expand_op, expand_item, expand_left, expand_right};
 ghost use Rattle.partial.specs.Views.{op_of, partial_is};
-ghost use Rattle.range.specs.Views.{compat_of, mode_is, prefix_of, lead_is, lead_in, longer_of, raised_of, expanding, expansion_of, shape_of, raised_partial};
+ghost use Rattle.range.specs.Views.{compat_of, mode_is, prefix_of, lead_is, lead_in, longer_of, raised_of, expanding, expansion_of, shape_of, shape_in, raised_partial, raised_text};
 
 use lexer::skip_bytes;
 use partial::{Op, Partial, PartialKind};
@@ -53,9 +53,9 @@ impl TryFrom<u8> for Compat {
 
 // ---- what stands before a partial
 
+// A bare partial has none.
 #[derive(Clone, Copy, PartialEq, Eq)]
 pub enum Prefix {
-    Bare,
     Tilde,
     Caret,
     Op(Op),
@@ -78,7 +78,8 @@ fn longer<'a>(
     }
 }
 
-// What is read before a partial, and what is left behind it.
+// What is read before a partial, and what is left behind it. 01 asks for fixed byte strings that are compared at the current place, so the first byte
+// has an arm for each of them.
 #[tactic(auto, unfolding(crate::proofs::Opened::readers))]
 pub fn read_prefix(s: &[u8]) -> Option<(Prefix, &[u8])>
     ensures { lead_in result ≡ read_prefix s.now }
@@ -93,7 +94,8 @@ pub fn read_prefix(s: &[u8]) -> Option<(Prefix, &[u8])>
     }
 }
 
-// ---- expansions: a match on the prefix or the operator, and on the partial's kind; behind an arm stands what it expands
+// ---- expansions. 01 asks for a match on the operator and the partial's kind that picks the expansion: each function is one of its tables, an arm for
+// each row, and behind an arm stands what it expands. Two tables are two functions, since they differ in nothing but their rows.
 
 #[derive(Clone, Copy, PartialEq, Eq)]
 pub enum Component {
@@ -110,6 +112,7 @@ pub struct Expansion {
 }
 
 impl Expansion {
+    // So a row of a table is a line.
     fn new(kept: Option<Op>, raised: Option<Component>) -> Expansion
         ensures { result ≡ expanding kept raised }
     {
@@ -137,60 +140,39 @@ fn tilde(kind: PartialKind) -> Expansion
     match kind {
         PartialKind::XRangeOnly => Expansion::new(Some(Op::Gte), None), // ~*
         PartialKind::MajorOnly => Expansion::new(Some(Op::Gte), Some(Component::Major)), // ~1
-        PartialKind::MajorMinor => Expansion::new(Some(Op::Gte), Some(Component::Minor)), // ~1.2
-        PartialKind::MajorMinorPatch => Expansion::new(Some(Op::Gte), Some(Component::Minor)), // ~1.2.3
+        _ => Expansion::new(Some(Op::Gte), Some(Component::Minor)), // ~1.2, ~1.2.3
     }
 }
 
 // The component that a caret raises.
 #[tactic(auto, unfolding(crate::proofs::Opened::expansions))]
-fn caret_raises(kind: PartialKind, major: u64, minor: u64) -> Option<Component>
-    ensures { result ≡ raised_of (caret_raises (shape_of kind major minor)) }
+fn caret_raises(p: &Partial<'_>) -> Option<Component>
+    ensures { result ≡ raised_of (caret_raises (shape_in p.now)) }
 {
-    match kind {
-        PartialKind::XRangeOnly => None,
-        PartialKind::MajorOnly => Some(Component::Major),
-        PartialKind::MajorMinor => {
-            if major == 0 {
-                Some(Component::Minor)
-            } else {
-                Some(Component::Major)
-            }
-        }
-        PartialKind::MajorMinorPatch => {
-            if major == 0 {
-                if minor == 0 {
-                    Some(Component::Patch)
-                } else {
-                    Some(Component::Minor)
-                }
-            } else {
-                Some(Component::Major)
-            }
-        }
+    match (p.kind, p.major, p.minor) {
+        (PartialKind::XRangeOnly, _, _) => None, // ^*
+        (PartialKind::MajorMinor, 0, _) => Some(Component::Minor), // ^0.2
+        (PartialKind::MajorMinorPatch, 0, 0) => Some(Component::Patch), // ^0.0.3
+        (PartialKind::MajorMinorPatch, 0, _) => Some(Component::Minor), // ^0.2.3
+        _ => Some(Component::Major), // ^1
     }
 }
 
 #[tactic(auto, unfolding(crate::proofs::Opened::expansions))]
-fn handle_caret_range(kind: PartialKind, major: u64, minor: u64) -> Expansion
-    ensures { result ≡ expansion_of (expand_caret (shape_of kind major minor)) }
+fn handle_caret_range(p: &Partial<'_>) -> Expansion
+    ensures { result ≡ expansion_of (expand_caret (shape_in p.now)) }
 {
-    Expansion::new(Some(Op::Gte), caret_raises(kind, major, minor))
+    Expansion::new(Some(Op::Gte), caret_raises(p))
 }
 
 // A partial alone: a full one is read as its caret under Cargo.
 #[tactic(auto, unfolding(crate::proofs::Opened::expansions))]
-fn bare(kind: PartialKind, major: u64, minor: u64, compat: Compat) -> Expansion
-    ensures { result ≡ expansion_of (expand_bare (compat_of compat) (shape_of kind major minor)) }
+fn bare(p: &Partial<'_>, compat: Compat) -> Expansion
+    ensures { result ≡ expansion_of (expand_bare (compat_of compat) (shape_in p.now)) }
 {
-    match kind {
-        PartialKind::XRangeOnly => equals(kind),
-        PartialKind::MajorOnly => equals(kind),
-        PartialKind::MajorMinor => equals(kind),
-        PartialKind::MajorMinorPatch => match compat {
-            Compat::Cargo => handle_caret_range(kind, major, minor),
-            Compat::Npm => equals(kind),
-        },
+    match (compat, p.kind) {
+        (Compat::Cargo, PartialKind::MajorMinorPatch) => handle_caret_range(p),
+        _ => equals(p.kind),
     }
 }
 
@@ -209,31 +191,23 @@ fn primitive(op: Op, kind: PartialKind) -> Expansion
         },
         Op::Gt => match kind {
             PartialKind::XRangeOnly => Expansion::new(Some(Op::Lt), None), // >*
-            PartialKind::MajorOnly => Expansion::new(Some(Op::Gt), None), // >1
-            PartialKind::MajorMinor => Expansion::new(Some(Op::Gt), None), // >1.2
-            PartialKind::MajorMinorPatch => Expansion::new(Some(Op::Gt), None), // >1.2.3
+            _ => Expansion::new(Some(Op::Gt), None), // >1, >1.2, >1.2.3
         },
         Op::Gte => Expansion::new(Some(Op::Gte), None),
         Op::Eq => equals(kind),
     }
 }
 
-// An item: a prefix and a partial.
+// An item: a partial, and what stands before it.
 #[tactic(auto, unfolding(crate::proofs::Opened::expansions))]
-pub fn simple(
-    prefix: Prefix,
-    kind: PartialKind,
-    major: u64,
-    minor: u64,
-    compat: Compat,
-) -> Expansion
-    ensures { result ≡ expansion_of (expand_item (compat_of compat) (item (prefix_of prefix) (shape_of kind major minor))) }
+pub fn simple(prefix: Option<Prefix>, p: &Partial<'_>, compat: Compat) -> Expansion
+    ensures { result ≡ expansion_of (expand_item (compat_of compat) (item (prefix_of prefix) (shape_in p.now))) }
 {
     match prefix {
-        Prefix::Bare => bare(kind, major, minor, compat),
-        Prefix::Tilde => tilde(kind),
-        Prefix::Caret => handle_caret_range(kind, major, minor),
-        Prefix::Op(op) => primitive(op, kind),
+        None => bare(p, compat),
+        Some(Prefix::Tilde) => tilde(p.kind),
+        Some(Prefix::Caret) => handle_caret_range(p),
+        Some(Prefix::Op(op)) => primitive(op, p.kind),
     }
 }
 
@@ -245,9 +219,7 @@ pub fn hyphen_left(kind: PartialKind) -> Expansion
 {
     match kind {
         PartialKind::XRangeOnly => Expansion::new(None, None), // * - ..
-        PartialKind::MajorOnly => Expansion::new(Some(Op::Gte), None), // 1 - ..
-        PartialKind::MajorMinor => Expansion::new(Some(Op::Gte), None), // 1.2 - ..
-        PartialKind::MajorMinorPatch => Expansion::new(Some(Op::Gte), None), // 1.2.3 - ..
+        _ => Expansion::new(Some(Op::Gte), None), // 1 - .., 1.2 - .., 1.2.3 - ..
     }
 }
 
@@ -255,25 +227,23 @@ pub fn hyphen_left(kind: PartialKind) -> Expansion
 pub fn hyphen_right(left: PartialKind, kind: PartialKind) -> Expansion
     ensures { result ≡ expansion_of (expand_right (shape_of left 0 0) (shape_of kind 0 0)) }
 {
-    match kind {
-        PartialKind::XRangeOnly => match left {
-            PartialKind::XRangeOnly => Expansion::new(Some(Op::Gte), None), // * - *
-            PartialKind::MajorOnly => Expansion::new(None, None), // 1 - *
-            PartialKind::MajorMinor => Expansion::new(None, None), // 1.2 - *
-            PartialKind::MajorMinorPatch => Expansion::new(None, None), // 1.2.3 - *
-        },
-        PartialKind::MajorOnly => Expansion::new(None, Some(Component::Major)), // .. - 1
-        PartialKind::MajorMinor => Expansion::new(None, Some(Component::Minor)), // .. - 1.2
-        PartialKind::MajorMinorPatch => Expansion::new(Some(Op::Lte), None), // .. - 1.2.3
+    match (left, kind) {
+        (PartialKind::XRangeOnly, PartialKind::XRangeOnly) => Expansion::new(Some(Op::Gte), None), // * - *
+        (_, PartialKind::XRangeOnly) => Expansion::new(None, None), // 1 - *, 1.2 - *, 1.2.3 - *
+        (_, PartialKind::MajorOnly) => Expansion::new(None, Some(Component::Major)), // .. - 1
+        (_, PartialKind::MajorMinor) => Expansion::new(None, Some(Component::Minor)), // .. - 1.2
+        (_, PartialKind::MajorMinorPatch) => Expansion::new(Some(Op::Lte), None), // .. - 1.2.3
     }
 }
 
 // ---- the comparators of an expansion
 
-// The partial of an added `<`: the raised component one more, those behind it zero, and no identifiers.
+// The partial of an added `<`: the raised component one more, those behind it zero, and no identifiers. Where none is raised, the partial itself: who
+// asks for the mark `over` needs no case for that. Each component has its own chain of methods, which a closure would only move to the caller.
 #[tactic(auto, unfolding(crate::proofs::Opened::expansions))]
 pub fn raise(p: Partial<'_>, raised: Option<Component>) -> Partial<'_>
-    ensures { partial_is result ≡ raised_partial raised (partial_is p.entry) }
+    ensures answer { partial_is result ≡ raised_partial raised (partial_is p.entry) }
+    ensures text { result.identifiers.now ≡ raised_text raised p.entry.identifiers.now }
 {
     match raised {
         Some(Component::Major) => p.inc_major().zero_minor().zero_patch().no_pre(),

@@ -16,7 +16,7 @@ use Rattle.rows.proofs.Puts.{put_then, put_same}
 use Rattle.passes.proofs.Passing.{passing_next}
 use Rattle.passes.proofs.Ends.{is_side}
 use Rattle.passes.proofs.Extending.{Extends, step_end, left_item, right_item}
-use Rattle.step_rows.specs.declared.Item.{Item}
+use Rattle.rows.specs.declared.Item.{Item}
 use Rattle.step_rows.specs.Views.{item_at, step_comparator_words, step_identifier_words}
 use Rattle.range_rows.specs.Views.{side_in, first, range_words, range_names, Beginning, AtRange, BehindRange, behind_range}
 use Rattle.range_rows.proofs.Stages.{Closes, Side, side_some, side_goes, side_closes}

@@ -16,7 +16,7 @@ use Rattle.passes.proofs.Turn.{ahead}
 use Rattle.passes.proofs.Passing.{passing_next}
 use Rattle.passes.proofs.Ends.{is_side}
 use Rattle.passes.proofs.Extending.{Extends, own_item}
-use Rattle.step_rows.specs.declared.Item.{Item}
+use Rattle.rows.specs.declared.Item.{Item}
 use Rattle.step_rows.specs.Views.{item_at, step_comparator_words, step_identifier_words}
 use Rattle.range_rows.specs.Views.{further_in, first, range_words, range_names, AtRange, BehindRange, behind_range}
 use Rattle.range_rows.proofs.Stages.{Closes, listed_plain, further_some, further_none}

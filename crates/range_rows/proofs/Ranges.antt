@@ -1,6 +1,6 @@
 -- The writer of all rows, one range after another: what its loop knows, and what each of its ways gives.
 -- Assumes nothing.
-use Rattle.std.proofs.Common.{ℕ, ◌+◌, ◌-◌, ◌≤◌, ◌≡◌, true, List, [], ◌∷◌, ◌++◌, map, length, take, drop, refl, Some, None, ◌∙◌, ap, ap₂, sym, add-one, arith}
+use Rattle.std.proofs.Common.{ℕ, ◌+◌, ◌-◌, ◌*◌, ◌≤◌, ◌≡◌, true, List, [], ◌∷◌, ◌++◌, map, length, take, drop, refl, Some, None, Ok, ◌∙◌, ap, ap₂, sym, add-one, arith}
 use lib.ListN.{length-take, length-drop}
 use borrow.Rule.Slice.PartMut.{put_mid}
 use Rattle.rules.specs.Lists.{concat}
@@ -8,8 +8,8 @@ use Rattle.rules.specs.Parse.{list_of}
 use Rattle.rules.specs.Expansion as E
 use Rattle.rules.specs.Expansion.{Piece, expand_range}
 use Rattle.rules.specs.Extents.{Extent, text_extents}
-use Rattle.rules.specs.Rows.{range_rows, rows_from, text_pieces, comparator_words, identifier_words}
-use Rattle.rules.specs.Answers.{accepted, reading, written, comparator_words_after, identifier_words_after}
+use Rattle.rules.specs.Rows.{comparator_width, range_rows, rows_from, text_pieces, comparator_words, identifier_words}
+use Rattle.rules.specs.Answers.{accepted, reading, reading_outcome, written, comparator_words_after, identifier_words_after}
 use Rattle.rules.specs.Walk as W
 use Rattle.rules.specs.Walk.{goes_on, piece_identifier_words, walk_identifier_words}
 use Rattle.rules.proofs.RowsLaws.{words-length, names-length}
@@ -20,7 +20,10 @@ use Rattle.rows.proofs.Puts.{put-part, put-onto, Begins, Writing, writing_start,
 use Rattle.passes.specs.Views.{first_step}
 use Rattle.passes.proofs.Passing.{starting, passing_next, passing_end}
 use Rattle.passes.proofs.Extending.{extending_all}
-use Rattle.range_rows.specs.Views.{first, later, range_words, range_names, Here, Beginning, AtRange, at_range, BehindRange, behind_range, Writable}
+use Rattle.rangeset.specs.declared.Counts.{Counts}
+use Rattle.rangeset.specs.Views.{outcome_of}
+use Rattle.rangeset.proofs.Outcomes.{counted-reading}
+use Rattle.range_rows.specs.Views.{first, later, range_words, range_names, Here, Beginning, AtRange, at_range, BehindRange, behind_range}
 use Rattle.range_rows.proofs.Stands.{later_drop}
 
 -- ---- the words of a range come first
@@ -75,9 +78,11 @@ module _ (m : E.Compat) (s start before : List ℕ) where
     pub room : length (comparator_words m s) ≤ length start
     pub space : length (identifier_words (length s) reads) ≤ length before
 
-  pub putting_start : (x : Stepped) → Some x ≡ first_step m s → Writable m s (length start) (length before) → Putting start before 0 0 0 x
+  pub putting_start : (x : Stepped) (c : Counts) → Some x ≡ first_step m s → outcome_of (Ok c) ≡ reading_outcome (reading m s)
+      → comparator_width * c.comparators ≤ length start → 3 * c.identifiers ≤ length before → Putting start before 0 0 0 x
   unfolding comparator_words
-  putting_start x e h =
+  putting_start x c e k r l =
+      let h = counted-reading m s c k in
       let a = starting m s h.reads h.is in let b = extending_all m s a.pass in
       let all : map (expand_range m) a.text.ranges ≡ text_pieces m s = ap (λ g. map (expand_range m) (list_of g)) (sym a.text.reads) in
       let names =
@@ -102,8 +107,8 @@ module _ (m : E.Compat) (s start before : List ℕ) where
         is = h.is;
         rows = writing_start start 0 (comparator_words m s);
         names = writing-todo names (writing_start before 0 (identifier_words (length s) h.reads));
-        room = let r = h.room in omega (arith, words-length m s h.reads h.is);
-        space = let r = h.space in omega (arith, names-length (length s) h.reads);
+        room = omega (arith, words-length m s h.reads h.is, h.comparators);
+        space = omega (arith, names-length (length s) h.reads, h.identifiers);
       }
 
 module _ {m : E.Compat} {s start before words ids : List ℕ} {range at to : ℕ} {x : Stepped} (d : Putting m s start before words ids range at to x) where

@@ -1,14 +1,13 @@
 -- The rows of one range of a text, and where a range begins and ends.
 -- Assumes nothing.
-use Rattle.std.specs.Prelude.{ℕ, suc, ◌+◌, ◌*◌, ◌≤◌, ◌≡◌, Bool, true, false, List, [], ◌∷◌, map, length, drop, Option, Some, None}
+use Rattle.std.specs.Prelude.{ℕ, suc, ◌+◌, ◌≤◌, ◌≡◌, Bool, true, false, List, [], ◌∷◌, map, length, drop, Option, Some, None}
 use Rattle.std.specs.Borrow.{Bor}
 use Rattle.rules.specs.Bytes.{pick}
 use Rattle.rules.specs.Lists.{concat}
 use Rattle.rules.specs.Parse.{list_of}
-use Rattle.rules.specs.Expansion.{Compat, Reading}
+use Rattle.rules.specs.Expansion.{Compat}
 use Rattle.rules.specs.Extents.{text_extents}
-use Rattle.rules.specs.Rows.{comparator_width, range_rows, text_pieces}
-use Rattle.rules.specs.Answers.{accepted, reading, comparator_rows, identifier_rows}
+use Rattle.rules.specs.Rows.{range_rows, text_pieces}
 use Rattle.rules.specs.Walk as W
 use Rattle.rules.specs.Walk.{goes_on, piece_identifier_words}
 use Rattle.walk.specs.Views.{Stepped, stage_of, step_at}
@@ -87,12 +86,3 @@ pub data AtRange (m : Compat) (s : List ℕ) (k : ℕ) (x : Stepped) (words ids 
 -- behind the range with this number
 pub data BehindRange (m : Compat) (s : List ℕ) (k : ℕ) (n : W.Stage × List ℕ) : Type 0 where
   behind_range : Here m s (k + 1) n → BehindRange m s k n
-
--- ---- all rows
-
--- None of 1 to 4 applies to the text, and its rows fit so many words.
-pub record Writable (m : Compat) (s : List ℕ) (words ids : ℕ) : Type 0 where
-  pub reads : Reading
-  pub is : reading m s ≡ accepted reads
-  pub room : comparator_width * comparator_rows reads ≤ words
-  pub space : 3 * identifier_rows reads ≤ ids

@@ -74,9 +74,9 @@ module _ (m : Compat) (s : List ℕ) where
         count-over o = outcome-refused (reading m s) Refusals.Over (reading-4 m s h found.ranges found.rest found.reads (large_is ∙ l) (over-is ∙ o))
 
         pub count-accepts : t.over ≡ false
-            → outcome_of (Ok (record { ranges = t.ranges; comparators = t.comparators; identifiers = t.identifiers })) ≡ reading_outcome (reading m s)
+            → outcome_of (Ok t.counts) ≡ reading_outcome (reading m s)
         count-accepts o =
-            ap (λ y. outcome_of (Ok (record { ranges = y.ranges; comparators = y.comparators; identifiers = y.identifiers }))) found.tallies
+            ap (λ y. outcome_of (Ok y.counts)) found.tallies
             ∙ sym (call-counts m found.ranges)
             ∙ ap reading_outcome (sym (reading-accepts m s h found.ranges found.rest found.reads (large_is ∙ l) (over-is ∙ o)))
 

@@ -16,7 +16,12 @@ use Rattle.refusals.specs.Views.{number_of}
 
 -- the rules' tally, as the code has it
 abbrev pub counted : W.Tally → Tally
-counted t = record { ranges = t.ranges; comparators = t.comparators; identifiers = t.identifiers; large = t.large; over = t.over }
+counted t =
+    record {
+      counts = record { ranges = t.ranges; comparators = t.comparators; identifiers = t.identifiers };
+      large = t.large;
+      over = t.over;
+    }
 
 -- none where the text has no reading
 unfoldable pub tally_of : Option (List (List Piece)) → Std.Option Tally

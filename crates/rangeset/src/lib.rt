@@ -2,7 +2,7 @@
 // which is read once.
 #![tactic(auto)]
 
-ghost use Rattle.std.specs.Prelude.{◌≡◌, ◌≤◌, length, Some, Ok, Err, IfOk, MatchResult};
+ghost use Rattle.std.specs.Prelude.{◌≡◌, ◌≤◌, length, Some, Ok, IfOk};
 ghost use Rattle.rules.specs.Parse.{read_text};
 ghost use Rattle.rules.specs.Answers.{identifier_bytes, longest, reading, reading_outcome};
 ghost use Rattle.rules.specs.Walk.{walk_of};
@@ -13,22 +13,29 @@ ghost use Rattle.rangeset.specs.Views.{tally_of, opened, outcome_of};
 
 use passes::{comparator_count, is_over};
 use range::Compat;
-use refusals::Refusal;
+use refusals::{LONGEST, Refusal};
 use walk::{Stage, Step, next};
 
 // ---- the measure
 
-// How many ranges, comparators and identifiers a text has, whether a component that is read is too large, and whether one cannot be raised.
+// How many ranges, comparator rows and identifier rows.
 #[derive(Clone, Copy, PartialEq, Eq)]
-pub struct Tally {
+pub struct Counts {
     pub ranges: usize,
     pub comparators: usize,
     pub identifiers: usize,
+}
+
+// What a text has, whether a component that is read is too large, and whether one cannot be raised. These two are marks and no refusals until the text
+// ends: that a later piece has no reading comes before both, and a later one that is too large before the second.
+#[derive(Clone, Copy, PartialEq, Eq)]
+pub struct Tally {
+    pub counts: Counts,
     pub large: bool,
     pub over: bool,
 }
 
-// How many ranges a step at this stage begins.
+// How many ranges a step at this stage begins: a number, since the tally adds it up.
 fn opened(stage: Stage) -> usize
     ensures value { result ≡ opened (stage_of stage) }
     ensures small { result ≤ 1 }
@@ -43,39 +50,31 @@ fn measure(s: &[u8], compat: Compat, first: &Step<'_>) -> Option<Tally>
     requires first_value { Some (step_is first.now) ≡ first_step (compat_of compat) s.now }
     ensures { result ≡ tally_of (walk_of (compat_of compat) (read_text s.now)) }
 {
-    let mut ranges = 1;
-    let mut comparators = comparator_count(first);
-    let mut identifiers = first.partial.count;
-    let mut large = first.partial.large;
-    let mut over = is_over(first);
+    let mut t = Tally {
+        counts: Counts {
+            ranges: 1,
+            comparators: comparator_count(first),
+            identifiers: first.partial.count,
+        },
+        large: first.partial.large,
+        over: is_over(first),
+    };
+    // Counted by hand: the `?` leaves the loop where there is no reading, and a `try_fold` over the same five sums is no plainer. It goes on by the place and
+    // not by the step behind it, which would be copied once more.
     let mut at = first.next;
     while let Some((stage, left)) = at {
         let x = next(left, stage, compat)?;
-        ranges += opened(stage);
-        comparators += comparator_count(&x);
-        identifiers += x.partial.count;
-        large = large | x.partial.large;
-        over = over | is_over(&x);
+        t.counts.ranges += opened(stage);
+        t.counts.comparators += comparator_count(&x);
+        t.counts.identifiers += x.partial.count;
+        t.large |= x.partial.large;
+        t.over |= is_over(&x);
         at = x.next;
     }
-    Some(Tally {
-        ranges,
-        comparators,
-        identifiers,
-        large,
-        over,
-    })
+    Some(t)
 }
 
 // ---- the counts of a reading
-
-// How many ranges, comparator rows and identifier rows.
-#[derive(Clone, Copy, PartialEq, Eq)]
-pub struct Counts {
-    pub ranges: usize,
-    pub comparators: usize,
-    pub identifiers: usize,
-}
 
 // What a text of at most 65,535 bytes has, if none of 2 to 4 applies to it.
 #[tactic(auto, using(crate::proofs::Outcomes::counting))]
@@ -91,11 +90,7 @@ fn count_measured(s: &[u8], compat: Compat, first: &Step<'_>) -> Result<Counts, 
     if t.over {
         return Err(Refusal::Over);
     }
-    Ok(Counts {
-        ranges: t.ranges,
-        comparators: t.comparators,
-        identifiers: t.identifiers,
-    })
+    Ok(t.counts)
 }
 
 // A text to which none of 1 to 4 applies under the mode, its first step, and the counts of its reading.
@@ -105,17 +100,19 @@ pub struct RangeSet<'a> {
     pub compat: Compat,
     pub first: Step<'a>,
     pub counts: Counts,
-    ghost counted: { outcome_of (Ok counts) ≡ reading_outcome (reading (compat_of compat) text.now) },
-    ghost starts: { Some (step_is first) ≡ first_step (compat_of compat) text.now },
+    pub ghost counted: { outcome_of (Ok counts) ≡ reading_outcome (reading (compat_of compat) text.now) },
+    pub ghost starts: { Some (step_is first) ≡ first_step (compat_of compat) text.now },
 }
 
 impl<'a> RangeSet<'a> {
+    ghost use Rattle.rangeset.specs.Sets.{set_outcome, IsSetOf};
+
     #[tactic(auto, using(crate::proofs::Outcomes::counting))]
     pub fn parse(text: &'a [u8], compat: Compat) -> Result<RangeSet<'a>, Refusal>
-        ensures answer { MatchResult result (λ set. outcome_of (Ok set.counts) ≡ reading_outcome (reading (compat_of compat) text.now)) (λ r. outcome_of (Err r) ≡ reading_outcome (reading (compat_of compat) text.now)) }
-        ensures of { IfOk result (λ set. (set.text ≡ text.entry) × (set.compat ≡ compat)) }
+        ensures answer { set_outcome result ≡ reading_outcome (reading (compat_of compat) text.now) }
+        ensures of { IfOk result (IsSetOf text.entry compat) }
     {
-        if text.len() > 65535 {
+        if text.len() > LONGEST {
             return Err(Refusal::TooLong);
         }
         let Some(first) = next(text, Stage::Range, compat) else {
@@ -139,7 +136,8 @@ pub fn count(s: &[u8], compat: Compat) -> Result<Counts, Refusal>
 }
 // ---- identifier bytes
 
-// The part of the text that an identifier's row names: length bytes from place on; the empty part where they pass the end.
+// The part of the text that an identifier's row names: length bytes from place on, as the row has these two numbers. Where they pass the
+// end, 01 asks for the empty part, and not for none.
 pub fn identifier_bytes<'a>(s: &'a [u8], place: usize, length: usize) -> &'a [u8]
     ensures { result.now ≡ identifier_bytes s.now place length }
 {

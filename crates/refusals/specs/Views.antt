@@ -1,6 +1,7 @@
 -- The number of a refusal, and what a call of the code answers as the rules have it.
 -- Assumes nothing.
-use Rattle.std.specs.Prelude.{ℕ, Result, Ok, Err}
+use Rattle.std.specs.Prelude.{ℕ, List, Result, Ok, Err}
+use Rattle.std.specs.Fmt.{decimal}
 use Rattle.rules.specs.Answers.{Answer, accepted, refused}
 use Rattle.refusals.specs.declared.Refusal.{Refusal}
 
@@ -18,6 +19,10 @@ number_of Refusal.VersionTooLarge = 9
 number_of Refusal.NotShelf = 10
 number_of Refusal.Full = 11
 number_of Refusal.Code = 12
+
+-- the number as a refusal prints itself
+abbrev pub number_text : Refusal → List ℕ
+number_text r = decimal (number_of r)
 
 -- what is handed back, or 01's number
 abbrev pub answer_of : {A : Type 0} → Result A Refusal → Answer A

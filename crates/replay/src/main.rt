@@ -23,31 +23,40 @@
 // own, stand all lent bytes, which held `_` before, and all lent words, which held 7.
 #![tactic(auto)]
 
-ghost use Rattle.std.specs.Prelude.{length};
-ghost use Rattle.std.specs.Iterator.{at_most};
-
 use admission::admit;
 use data_rows::{Rest, at_most};
 use equality::{equal_readings, read_normal_text};
+use lexer::before;
 use normal_text::normal_text;
 use plain::plainform;
-use printing::{Answer, Counted, Length, Reread, Shown};
+use printing::{Answer, BYTES, Counted, IDS, Length, Shown, WORDS};
 use range::Compat;
 use reading::read;
 use std::io;
-use std::time::Clock;
+
+// The most bytes, and the most words of a kind, that are lent where all of it is printed.
+const SHORT_BYTES: usize = 1024;
+
+const SHORT_WORDS: usize = 64;
+
+// The most bytes of a row's first text, and of its second, and the bytes of the file.
+const TEXT: usize = 131072;
+
+const OTHER: usize = 65536;
+
+const FILE: usize = 131072;
 
 // ---- rows
 
 // A call that is shown with short memory, all of it, and with long memory, by its end.
-#[derive(Clone, Copy)]
+#[derive(Clone, Copy, PartialEq, Eq)]
 enum Spelled {
     NormalText,
     Reading,
     ReadAgain,
 }
 
-#[derive(Clone, Copy)]
+#[derive(Clone, Copy, PartialEq, Eq)]
 enum Call {
     Heading,
     Short(Spelled),
@@ -57,7 +66,7 @@ enum Call {
     Long(Spelled),
 }
 
-// A number that is no call's is taken for 9.
+// The rows are numbers. One that is no call's is taken for 9.
 impl From<u64> for Call {
     fn from(number: u64) -> Call {
         match number {
@@ -75,7 +84,7 @@ impl From<u64> for Call {
     }
 }
 
-// A text: how many bytes it has, how many of them stand in the row, and these.
+// A text: how many bytes it has, how many of them stand in the row by its line, and these, which are fewer where the file ends before.
 #[derive(Clone, Copy)]
 struct Text<'a> {
     size: u64,
@@ -107,20 +116,10 @@ struct Question<'a> {
     other: &'a [u8],
 }
 
-#[derive(Drop)]
-struct Rows<'a>(Rest<'a>);
-
-impl<'a> Iterator for Rows<'a> {
-    type Item = Row<'a>;
-
-    ghost remaining = { λ s. at_most (length s.0.bytes.now) };
-
-    fn next(&mut self) -> Option<Row<'a>> {
-        let start = self.0.bytes;
-        if start.is_empty() {
-            return None;
-        }
-        let rest = &mut self.0;
+impl<'a> data_rows::Row<'a> for Row<'a> {
+    fn take(rest: &mut Rest<'a>) -> Row<'a> {
+        // Where the line begins.
+        let start = rest.bytes;
         let call = Call::from(rest.number());
         let cargo = rest.number();
         let npm = rest.number();
@@ -130,7 +129,7 @@ impl<'a> Iterator for Rows<'a> {
         let given = rest.number();
         let other_size = rest.number();
         let other_given = rest.number();
-        let line = &start[..start.len() - rest.bytes.len()];
+        let line = before(start, rest.bytes);
         let text = Text {
             size,
             given,
@@ -141,7 +140,7 @@ impl<'a> Iterator for Rows<'a> {
             given: other_given,
             bytes: rest.text(other_given),
         };
-        Some(Row {
+        Row {
             line,
             call,
             cargo,
@@ -150,12 +149,13 @@ impl<'a> Iterator for Rows<'a> {
             ids,
             text,
             other,
-        })
+        }
     }
 }
 
 // ---- the calls
 
+// The one user is here, and the mode's crate has no word for it.
 fn other_mode(compat: Compat) -> Compat {
     match compat {
         Compat::Cargo => Compat::Npm,
@@ -163,16 +163,41 @@ fn other_mode(compat: Compat) -> Compat {
     }
 }
 
-impl Question<'_> {
+// What a call is lent.
+#[derive(Drop)]
+struct Lent<'a> {
+    out: &'a mut [u8],
+    words: &'a mut [u64],
+    ids: &'a mut [u64],
+}
+
+impl<'a> Question<'a> {
+    // The question of long memory: all words, but that the reading alone takes identifier words.
+    fn lent_all(self, call: Spelled) -> Question<'a> {
+        Question {
+            words: u64::MAX,
+            ids: match call {
+                Spelled::Reading => u64::MAX,
+                Spelled::NormalText | Spelled::ReadAgain => 0,
+            },
+            ..self
+        }
+    }
+
+    // Of what is lent the call takes as much as the row says, or all. A match on the call, here and below: the rows say which it is, so it is data, and no
+    // function that a caller could pass.
     fn show_spelled(
         &self,
         rt: &impl Print,
         call: Spelled,
         shown: Shown,
-        out: &mut [u8],
-        words: &mut [u64],
-        ids: &mut [u64],
+        lent: Lent<'_>,
     ) -> io::Result<()> {
+        let Lent { out, words, ids } = lent;
+        let m = at_most(self.bytes, out.len());
+        let n = at_most(self.words, words.len());
+        let k = at_most(self.ids, ids.len());
+        let (out, words, ids) = (&mut out[..m], &mut words[..n], &mut ids[..k]);
         match call {
             Spelled::NormalText => {
                 let length = normal_text(self.text, self.compat, out).map(Length);
@@ -188,7 +213,7 @@ impl Question<'_> {
             Spelled::ReadAgain => {
                 let other = other_mode(self.compat);
                 let counts = read_normal_text(self.text, self.compat, other, out, words, ids);
-                println!(rt; " {}", Reread(counts))?;
+                println!(rt; " {}", Answer(counts.map(Counted)))?;
                 shown.put_bytes(rt, out)?;
                 shown.put_words(rt, words)?;
                 shown.put_words(rt, ids)
@@ -196,38 +221,17 @@ impl Question<'_> {
         }
     }
 
-    fn show_short(&self, rt: &impl Print, call: Spelled) -> io::Result<()> {
-        let mut out = [b'_'; 1024];
-        let mut words = [7u64; 64];
-        let mut ids = [7u64; 64];
-        let m = at_most(self.bytes, 1024);
-        let n = at_most(self.words, 64);
-        let k = at_most(self.ids, 64);
-        self.show_spelled(
-            rt,
-            call,
-            Shown::Whole,
-            &mut out[..m],
-            &mut words[..n],
-            &mut ids[..k],
-        )
-    }
-
-    // The reading alone is lent identifier words.
+    // The arrays are parameters: over arrays of this size that are made here, the proof of `Lent` is too deep for the prover.
     fn show_long(
         &self,
         rt: &impl Print,
         call: Spelled,
-        out: &mut [u8; 524288],
-        words: &mut [u64; printing::WORDS],
-        ids: &mut [u64; 98304],
+        out: &mut [u8; BYTES],
+        words: &mut [u64; WORDS],
+        ids: &mut [u64; IDS],
     ) -> io::Result<()> {
-        let m = at_most(self.bytes, 524288);
-        let k = match call {
-            Spelled::Reading => 98304,
-            _ => 0,
-        };
-        self.show_spelled(rt, call, Shown::End, &mut out[..m], words, &mut ids[..k])
+        let lent = Lent { out, words, ids };
+        self.lent_all(call).show_spelled(rt, call, Shown::End, lent)
     }
 
     fn show_admission(&self, rt: &impl Print) -> io::Result<()> {
@@ -239,12 +243,11 @@ impl Question<'_> {
     }
 
     fn show_equality(&self, rt: &impl Print) -> io::Result<()> {
-        let mut first = [b'_'; 1024];
-        let mut second = [b'_'; 64];
-        let m = at_most(self.bytes, 1024);
-        let n = at_most(self.words, 64);
-        let a = &mut first[..m];
-        let b = &mut second[..n];
+        // No heap: arrays, of which as much is lent as the row says.
+        let mut first = [b'_'; SHORT_BYTES];
+        let mut second = [b'_'; SHORT_WORDS];
+        let a = &mut first[..at_most(self.bytes, SHORT_BYTES)];
+        let b = &mut second[..at_most(self.words, SHORT_WORDS)];
         let same = equal_readings(self.text, self.compat, self.other, Compat::Npm, a, b);
         println!(rt;
             " {}",
@@ -257,21 +260,29 @@ impl Question<'_> {
     fn show(&self, rt: &impl Print, call: Call) -> io::Result<()> {
         match call {
             Call::Heading => Ok(()),
-            Call::Short(call) => self.show_short(rt, call),
+            Call::Short(call) => {
+                let lent = Lent {
+                    out: &mut [b'_'; SHORT_BYTES],
+                    words: &mut [7; SHORT_WORDS],
+                    ids: &mut [7; SHORT_WORDS],
+                };
+                self.show_spelled(rt, call, Shown::Whole, lent)
+            }
             Call::Admission => self.show_admission(rt),
             Call::Equality => self.show_equality(rt),
             Call::Plainform => show_plainform(rt, self.text, &mut [0; plain::ROOM]),
             Call::Long(call) => self.show_long(
                 rt,
                 call,
-                &mut [b'_'; 524288],
-                &mut [7; printing::WORDS],
-                &mut [7; 98304],
+                &mut [b'_'; BYTES],
+                &mut [7; WORDS],
+                &mut [7; IDS],
             ),
         }
     }
 }
 
+// It writes to an array (no heap), and answers how many bytes.
 fn show_plainform(rt: &impl Print, input: &[u8], out: &mut [u8; plain::ROOM]) -> io::Result<()> {
     let len = plainform(input, out);
     rt.write_all(&out[..len])
@@ -302,7 +313,7 @@ impl Text<'_> {
 // ---- a row
 
 impl Row<'_> {
-    // The row's call, under each mode where it takes one.
+    // The row's call, under each mode; plainform asks under both itself.
     fn show_call(&self, rt: &impl Print, text: &[u8], other: &[u8]) -> io::Result<()> {
         let question = Question {
             compat: Compat::Cargo,
@@ -313,7 +324,7 @@ impl Row<'_> {
             other,
         };
         question.show(rt, self.call)?;
-        if matches!(self.call, Call::Plainform) {
+        if self.call == Call::Plainform {
             return Ok(());
         }
         let under_npm = Question {
@@ -324,9 +335,10 @@ impl Row<'_> {
         under_npm.show(rt, self.call)
     }
 
+    // No heap: the texts are made in arrays.
     fn show_long(&self, rt: &impl Print) -> io::Result<()> {
-        let mut first = [0u8; 131072];
-        let mut second = [0u8; 65536];
+        let mut first = [0u8; TEXT];
+        let mut second = [0u8; OTHER];
         let text = self.text.lengthen(&mut first);
         let other = self.other.lengthen(&mut second);
         self.show_call(rt, text, other)
@@ -346,15 +358,7 @@ impl Row<'_> {
 
 // ---- the file
 
-// The file has fewer bytes than are read: of a longer one the last row would be cut off.
-fn run(rt: &(impl io::Input + Print + Clock), file: &mut [u8; 131072]) -> io::Result<()> {
-    let n = streams::read_all(rt, file)?;
-    for row in Rows(Rest { bytes: &file[..n] }) {
-        row.show(rt)?;
-    }
-    Ok(())
-}
-
+// No heap: the file is read to an array.
 fn main(rt: HostRuntime) -> io::Result<()> {
-    run(&rt, &mut [0u8; 131072])
+    data_rows::replay(&rt, &mut [0u8; FILE], |row: Row<'_>| row.show(&rt))
 }

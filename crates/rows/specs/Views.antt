@@ -7,12 +7,13 @@ use Rattle.rules.specs.Rows.{op_code, identifier_row}
 use Rattle.lexer.specs.declared.Identifier.{Identifier}
 use Rattle.partial.specs.Views.{op_of}
 use Rattle.partial.specs.declared.Comparator.{Comparator}
+use Rattle.rows.specs.declared.Item.{Item}
 
 -- ---- comparators
 
--- the row of a comparator of the range with this number, whose item takes size bytes from place on
-abbrev pub comparator_words : ℕ → ℕ → ℕ → Comparator → List ℕ
-comparator_words range place size c = range ∷ op_code (op_of c.op) ∷ c.major ∷ c.minor ∷ c.patch ∷ c.count ∷ place ∷ size ∷ []
+-- the row of a comparator of this item
+abbrev pub comparator_words : Item → Comparator → List ℕ
+comparator_words t c = t.range ∷ op_code (op_of c.op) ∷ c.major ∷ c.minor ∷ c.patch ∷ c.count ∷ t.place ∷ t.size ∷ []
 
 -- ---- identifiers
 

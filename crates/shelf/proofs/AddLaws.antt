@@ -22,9 +22,9 @@ use Rattle.shelf_rules.specs.Shelf.{capacity, longest_text, entry_row, kept_row,
 use Rattle.shelf_rules.proofs.EntryLaws.{reading-within, reading-of}
 use Rattle.triples.specs.Views.{bounds_is}
 use Rattle.triples.specs.declared.Bounds.{Bounds}
-use Rattle.entries.specs.Views.{entries_of, option_of}
+use Rattle.entries.specs.Views.{entries_of, OfShelf, option_of}
 use Rattle.entries.specs.declared.entries.Entries.{Entries}
-use Rattle.entries.proofs.Counting.{OfShelf, not_shelf, found_is}
+use Rattle.entries.proofs.Counting.{not_shelf, found_is}
 
 -- ---- parse_text
 
@@ -105,8 +105,11 @@ module _ (code : ℕ) (m : Compat) (t l : List ℕ) where
         pub full : e.count ≡ 256 → add_call code m t l ≡ refused 11
         full n = let s = h.counted.is in add_as ∙ rw (tested b i, q, s, n)
 
-        pub few : (e.count ≡ 256 → ⊥) → e.count < 256
+        few : (e.count ≡ 256 → ⊥) → e.count < 256
         few n = let f = h.counted.few in omega arith
+
+        pub room : (e.count ≡ 256 → ⊥) → count_in l < 256
+        room n = rw h.counted.is (few n)
 
         pub added : (e.count ≡ 256 → ⊥) → (k : Bounds) → accepted (bounds_is k) ≡ map_answer bounds_of (reading m t)
             → add_call code m t l ≡ accepted (with_entry (entry_row code m t) (kept_row (bounds_is k)) l)

@@ -13,9 +13,9 @@ use Rattle.refusals.specs.declared.Refusal.{Refusal}
 use Rattle.refusals.specs.declared.Refusal.TheVariants as Refusals
 use Rattle.shelf_rules.specs.Table.{rows_of}
 use Rattle.shelf_rules.specs.Shelf.{count_in, find_code, without_entry, sized, shelf_in, located, emptied, empty_call, remove_call}
-use Rattle.entries.specs.Views.{entries_of, option_of}
+use Rattle.entries.specs.Views.{entries_of, OfShelf, option_of}
 use Rattle.entries.specs.declared.entries.Entries.{Entries}
-use Rattle.entries.proofs.Counting.{OfShelf, not_shelf, found_is, found_below}
+use Rattle.entries.proofs.Counting.{not_shelf, found_is, found_below}
 
 -- ---- a code that is found, or 12
 
@@ -71,8 +71,8 @@ module _ (l : List ℕ) (code : ℕ) where
     missing y q = remove_as ∙ ap (map_answer (λ k. without_entry k l)) (not_found o y q)
 
     module _ (k : ℕ) (q : Ok k ≡ ok_or o Refusals.Code) where
-      pub below : k < e.count
-      below = found_below l e h code o f k (found o k q)
+      pub below : k < count_in l
+      below = rw h.counted.is (found_below l e h code o f k (found o k q))
 
       pub removed : remove_call code l ≡ accepted (without_entry k l)
       removed = remove_as ∙ rw (found o k q)

@@ -11,10 +11,10 @@ use Rattle.refusals.specs.declared.Refusal.TheVariants as Refusals
 use Rattle.shelf_rules.specs.Table.{rows_of}
 use Rattle.shelf_rules.specs.Shelf.{count_in, find_code, shelf_in, located, text_part, text_call, list_call}
 use Rattle.shelf_rules.proofs.ListingLaws.{listed-part, listed-within, refused-text}
-use Rattle.entries.specs.Views.{entries_of, option_of, part_of, part_at}
+use Rattle.entries.specs.Views.{entries_of, OfShelf, option_of, part_of, part_at}
 use Rattle.entries.specs.declared.entries.Part.{Part}
 use Rattle.entries.specs.declared.entries.Entries.{Entries}
-use Rattle.entries.proofs.Counting.{OfShelf, of_shelf, not_shelf, shelf_entry, found_is, found_below}
+use Rattle.entries.proofs.Counting.{not_shelf, shelf_entry, found_is, found_below}
 use Rattle.shelf.specs.Views.{listing_of}
 use Rattle.shelf.proofs.ChangeLaws.{found, not_found}
 
@@ -41,7 +41,7 @@ module _ (l : List ℕ) (code : ℕ) where
       pub listed : (p : Part) → p ≡ part_at k e.bytes.now → listing_of (Ok p) ≡ list_call code l
       listed p i = rw (i, ← shelf_entry l e h k (found_below l e h code o f k (found o k q))) (sym (list_as ∙ rw (found o k q)))
 
-pub ruleset lists = (of_shelf, unlisted, missing, within, listed)
+pub ruleset lists = (unlisted, missing, within, listed)
 
 -- ---- text
 

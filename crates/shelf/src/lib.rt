@@ -1,10 +1,10 @@
 // A shelf of parts in lent bytes (02, N1 and N3): make empty, add, remove and the listing. "Shelf", "part code", "entry" and "listing" are 02's words.
 #![tactic(auto)]
 
-ghost use Rattle.std.specs.Prelude.{◌≡◌, Ok, Err, IfOk, MatchResult};
+ghost use Rattle.std.specs.Prelude.{◌≡◌, IfOk};
 ghost use Rattle.rules.specs.Answers.{text_of, reading_outcome};
 ghost use Rattle.range.specs.Views.{compat_of};
-ghost use Rattle.rangeset.specs.Views.{outcome_of};
+ghost use Rattle.rangeset.specs.Sets.{set_outcome, IsSetOf};
 ghost use Rattle.shelf_rules.specs.Shelf.{refusal_of, shelf_after, entry_reading, empty_call, add_call, remove_call, text_call, list_call};
 ghost use Rattle.shelf.specs.Views.{change_of, listing_of};
 
@@ -32,8 +32,8 @@ pub fn make_empty(shelf: &mut [u8]) -> Result<(), Refusal>
 // The text of an entry, if none of 1 to 4 applies to it, with 96 as its length limit.
 #[tactic(auto, using(crate::proofs::AddLaws::text_long))]
 fn parse_text<'a>(text: &'a [u8], compat: Compat) -> Result<RangeSet<'a>, Refusal>
-    ensures answer { MatchResult result (λ set. outcome_of (Ok set.counts) ≡ reading_outcome (entry_reading (compat_of compat) text.now)) (λ r. outcome_of (Err r) ≡ reading_outcome (entry_reading (compat_of compat) text.now)) }
-    ensures of { IfOk result (λ set. (set.text ≡ text.entry) × (set.compat ≡ compat)) }
+    ensures answer { set_outcome result ≡ reading_outcome (entry_reading (compat_of compat) text.now) }
+    ensures of { IfOk result (IsSetOf text.entry compat) }
 {
     if text.len() > TEXT_BYTES {
         return Err(Refusal::TooLong);
@@ -41,6 +41,7 @@ fn parse_text<'a>(text: &'a [u8], compat: Compat) -> Result<RangeSet<'a>, Refusa
     RangeSet::parse(text, compat)
 }
 
+// 02's calls take a shelf and a part code, and add a mode and a text besides.
 pub fn add(shelf: &mut [u8], code: u16, compat: Compat, text: &[u8]) -> Result<(), Refusal>
     ensures answer { change_of result ≡ refusal_of (add_call code (compat_of compat) text.now shelf.old) }
     ensures bytes { shelf.new ≡ shelf_after (add_call code (compat_of compat) text.now shelf.old) shelf.old }
@@ -50,11 +51,10 @@ pub fn add(shelf: &mut [u8], code: u16, compat: Compat, text: &[u8]) -> Result<(
     if entries.find_code(code).is_some() {
         return Err(Refusal::Code);
     }
-    let n = entries.count;
-    if n == CAPACITY {
+    if entries.count == CAPACITY {
         return Err(Refusal::Full);
     }
-    add_at(shelf, n, code, compat, text, bounds_of(&set));
+    add_at(shelf, code, compat, text, bounds_of(&set));
     Ok(())
 }
 
@@ -64,9 +64,8 @@ pub fn remove(shelf: &mut [u8], code: u16) -> Result<(), Refusal>
     ensures bytes { shelf.new ≡ shelf_after (remove_call code shelf.old) shelf.old }
 {
     let entries = Entries::of(shelf)?;
-    let n = entries.count;
     let k = entries.find_code(code).ok_or(Refusal::Code)?;
-    remove_at(shelf, n, k);
+    remove_at(shelf, k);
     Ok(())
 }
 
@@ -82,11 +81,13 @@ pub fn list(shelf: &[u8], code: u16) -> Result<Part, Refusal>
     Ok(entries.part_at(k))
 }
 
-// That text itself, as a part of the shelf; the empty part where the listing is refused.
+// That text itself, as a part of the shelf; the empty part where the listing is refused, as the rules' `text_of` has it. A Part is taken apart since rangeset, below it,
+// knows only a place and a length.
 #[tactic(auto, using(crate::proofs::ListLaws::texts))]
 pub fn text<'a>(shelf: &'a [u8], code: u16) -> &'a [u8]
     ensures { result.now ≡ text_of (text_call code shelf.now) }
 {
+    // `map_or` was tried: what its closure answers was not found by the check.
     match list(shelf, code) {
         Ok(part) => identifier_bytes(shelf, part.place, part.length),
         Err(_) => &shelf[..0],

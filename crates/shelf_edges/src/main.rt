@@ -18,20 +18,19 @@
 //     7  the lookup of the version that is the text, as first fit
 #![tactic(auto)]
 
-ghost use Rattle.std.specs.Prelude.{◌<◌, length};
-ghost use Rattle.std.specs.Iterator.{at_most};
+ghost use Rattle.std.specs.Prelude.{◌<◌};
 
 use data_rows::{Rest, at_most};
+use lexer::before;
 use maluwesi_shelf::{
     maluwesi_shelf_add, maluwesi_shelf_clear, maluwesi_shelf_find, maluwesi_shelf_first_fit,
     maluwesi_shelf_lookup, maluwesi_shelf_remove,
 };
 use std::io;
-use std::time::Clock;
 
 // ---- rows
 
-#[derive(Clone, Copy)]
+#[derive(Clone, Copy, PartialEq, Eq)]
 enum Call {
     Heading,
     Clear,
@@ -43,7 +42,7 @@ enum Call {
     Lookup,
 }
 
-// A number that is no call's sets a byte, as 6 does.
+// The rows are numbers. One that is no call's sets a byte, as 6 does.
 impl From<u64> for Call {
     fn from(number: u64) -> Call {
         match number {
@@ -59,7 +58,7 @@ impl From<u64> for Call {
     }
 }
 
-// A row: its line, what the line's numbers say, and the text.
+// A row: its line, what the line's numbers say, as the exported functions take it (the mode is a number), and the text.
 #[derive(Clone, Copy)]
 struct Row<'a> {
     line: &'a [u8],
@@ -70,35 +69,26 @@ struct Row<'a> {
     text: &'a [u8],
 }
 
-#[derive(Drop)]
-struct Rows<'a>(Rest<'a>);
-
-impl<'a> Iterator for Rows<'a> {
-    type Item = Row<'a>;
-
-    ghost remaining = { λ s. at_most (length s.0.bytes.now) };
-
-    fn next(&mut self) -> Option<Row<'a>> {
-        let start = self.0.bytes;
-        if start.is_empty() {
-            return None;
-        }
-        let rest = &mut self.0;
+impl<'a> data_rows::Row<'a> for Row<'a> {
+    fn take(rest: &mut Rest<'a>) -> Row<'a> {
+        // Where the line begins.
+        let start = rest.bytes;
         let call = Call::from(rest.number());
         let size = rest.number();
+        // A cast is to lose no bits, so the remainder is taken first.
         let code = (rest.number() % 65536) as u16;
         let mode = (rest.number() % 256) as u8;
         let length = rest.number();
-        let line = &start[..start.len() - rest.bytes.len()];
+        let line = before(start, rest.bytes);
         let text = rest.text(length);
-        Some(Row {
+        Row {
             line,
             call,
             size,
             code,
             mode,
             text,
-        })
+        }
     }
 }
 
@@ -121,6 +111,7 @@ fn put_checksum(rt: &impl Print, s: &[u8]) -> io::Result<()> {
 
 // ---- the calls
 
+// The function that C calls leaves a place and a length.
 fn show_find(rt: &impl Print, shelf: &[u8], code: u16) -> io::Result<()> {
     let mut place = 1;
     let mut len = 1;
@@ -139,13 +130,15 @@ fn show_fit<F: FnOnce(&mut u8, &mut u16) -> u64>(rt: &impl Print, fit: F) -> io:
 }
 
 fn set_byte(shelf: &mut [u8], at: u16, byte: u8) {
-    if let Some(place) = shelf.get_mut(at as usize) {
+    if let Some(place) = shelf.get_mut(usize::from(at)) {
         *place = byte;
     }
 }
 
 impl Row<'_> {
+    // A match on the call: the rows say which it is, so it is data, and no function that a caller could pass.
     fn show_call(&self, rt: &impl Print, shelf: &mut [u8]) -> io::Result<()> {
+        // For the two closures.
         let text = self.text;
         match self.call {
             Call::Heading => Ok(()),
@@ -183,19 +176,10 @@ impl Row<'_> {
 
 // ---- the file
 
-// The file has fewer bytes than are read: of a longer one the last row would be cut off.
-fn run(
-    rt: &(impl io::Input + Print + Clock),
-    file: &mut [u8],
-    memory: &mut [u8],
-) -> io::Result<()> {
-    let n = streams::read_all(rt, file)?;
-    for row in Rows(Rest { bytes: &file[..n] }) {
-        row.show(rt, memory)?;
-    }
-    Ok(())
-}
-
+// No heap: the file is read to an array, and the shelf is the first bytes of another, as many as each row says.
 fn main(rt: HostRuntime) -> io::Result<()> {
-    run(&rt, &mut [0u8; 16384], &mut [0u8; 37891])
+    let mut memory = [0u8; 37891];
+    data_rows::replay(&rt, &mut [0u8; 16384], |row: Row<'_>| {
+        row.show(&rt, &mut memory)
+    })
 }

@@ -1,82 +1,53 @@
--- The digits of a number by those of its tenth, and how many they are.
+-- The rules' digits of a number are the library's, and how many they are.
 -- Assumes nothing.
-use Prim.Native.Nat.{ℕ, zero, suc, ◌+◌, ◌/◌, ◌%◌, ◌^◌, ◌≤◌, ◌<◌}
-use mathlib.Core.Path.{◌≡◌, refl, sym, ap, ◌∙◌}
-use mathlib.Core.List.{List, [], ◌∷◌, ◌++◌, append_assoc}
-use native.Mathlib.Decide.{dec_lt}
-use native.Mathlib.Nat.{pow-suc}
-use native.Mathlib.Omega.{arith}
+use Rattle.std.specs.Fmt as F
+use Rattle.std.specs.Prelude.{Option, Some, None, IfNone, IfSome, unwrap_or}
+use Rattle.std.proofs.Common.{◌≡◌, ℕ, zero, suc, ◌+◌, ◌*◌, ◌/◌, ◌%◌, ◌^◌, ◌<◌, ◌≤◌, List, [], ◌∷◌, ◌++◌, length, take, drop, refl, sym, ap, ◌∙◌, arith, length-append}
+use mathlib.Core.List.{append_assoc, append-nil}
 use borrow.Author.Tests.{lt-ltb, le-ltb}
-use mir.Val.{Fits}
-use mir.Syntax.{w64}
-use lib.ListN.{length, length-append}
+use Rattle.std.proofs.Math.Nat.{pow-succ', one-le-pow}
+use Rattle.std.proofs.lemmas.Fmt.{PrependsLastDigit, decimal_from_prepends, decimal_digit, decimal_step, length-decimal-le_succ}
+use Rattle.std.proofs.lemmas.List.{take-append-drop}
+use Rattle.std.proofs.lemmas.List.Edits.{sets-eq}
 use Rattle.rules.specs.NormalText.{decimal_to, decimal}
+use Rattle.rows.specs.Put.{Put}
 
--- ---- one digit, and one behind others
+-- ---- the rules' digits are the library's
 
-module _ (f n : ℕ) (ds : List ℕ) where
-  to-small : n < 10 → decimal_to (suc f) n ds ≡ (48 + n) ∷ ds
-  unfolding decimal_to
-  to-small h = rw (lt-ltb n 10 h, decimal_to)
-
-  to-more : 10 ≤ n → decimal_to (suc f) n ds ≡ decimal_to f (n / 10) ((48 + n % 10) ∷ ds)
-  unfolding decimal_to
-  to-more h = rw (le-ltb n 10 h, decimal_to)
-
--- two bounds that are large enough
-to_same : (f g n : ℕ) (ds : List ℕ) → n < f → n < g → decimal_to f n ds ≡ decimal_to g n ds
-to_same zero g n ds h k = absurd (omega arith)
-to_same (suc f) zero n ds h k = absurd (omega arith)
-to_same (suc f) (suc g) n ds h k =
-    elim (dec_lt n 10) [
-      | yes s ↦ to-small f n ds s ∙ sym (to-small g n ds s)
-      | no m ↦ let l : 10 ≤ n = omega arith in
-          to-more f n ds l ∙ to_same f g (n / 10) ((48 + n % 10) ∷ ds) (omega arith) (omega arith) ∙ sym (to-more g n ds l)
-    ]
-
--- the digits that follow stand behind
-to-behind : (f n : ℕ) (ds : List ℕ) → decimal_to f n ds ≡ decimal_to f n [] ++ ds
+prepends : PrependsLastDigit decimal_to
 unfolding decimal_to
-to-behind zero n ds = refl
-to-behind (suc f) n ds =
-    elim (dec_lt n 10) [
-      | yes s ↦ to-small f n ds s ∙ sym (ap (λ (l : List ℕ). l ++ ds) (to-small f n [] s))
-      | no m ↦ let l : 10 ≤ n = omega arith in let d = 48 + n % 10 in
-          to-more f n ds l ∙ to-behind f (n / 10) (d ∷ ds) ∙ sym (append_assoc (decimal_to f (n / 10) []) (d ∷ []) ds)
-          ∙ sym (ap (λ (l : List ℕ). l ++ ds) (to-more f n [] l ∙ to-behind f (n / 10) (d ∷ [])))
-    ]
+prepends = record { one = λ k n ds h. rw (lt-ltb n 10 h, decimal_to); more = λ k n ds h. rw (le-ltb n 10 h, decimal_to) }
 
-module _ (n : ℕ) where
-  pub decimal-small : n < 10 → decimal n ≡ (48 + n) ∷ []
-  unfolding decimal
-  decimal-small h = to-small n n [] h
-
-  pub decimal-more : 10 ≤ n → decimal n ≡ decimal (n / 10) ++ ((48 + n % 10) ∷ [])
-  unfolding decimal
-  decimal-more h =
-      let d = (48 + n % 10) ∷ [] in
-      to-more n n [] h ∙ to_same n (suc (n / 10)) (n / 10) d (omega arith) (omega arith) ∙ to-behind (suc (n / 10)) (n / 10) d
+pub decimal_is : (n : ℕ) → n < 2 ^ 64 → decimal n ≡ F.decimal n
+unfolding decimal
+decimal_is n h = decimal_from_prepends decimal_to prepends (suc n) n [] h (omega (arith, length-decimal-le_succ n h)) ∙ append-nil (F.decimal n)
 
 -- ---- how many they are
 
-module _ (n : ℕ) where
-  pub length-small : n < 10 → length (decimal n) ≡ 1
-  length-small h = ap length (decimal-small n h)
+power-length : (k n : ℕ) → 10 ^ k ≤ n → n < 10 * 10 ^ k → n < 2 ^ 64 → length (decimal n) ≡ k + 1
+power-length zero n p q h = rw (decimal_is n h) (ap length (decimal_digit n (omega arith)))
+power-length (suc k) n p q h =
+    let s = pow-succ' 10 k in
+    let m = power-length k (n / 10) (omega arith) (omega arith) (omega arith) in
+    rw (decimal_is n h, decimal_step n (omega (arith, one-le-pow 10 k)) h) (omega (arith, length-append (F.decimal (n / 10)) ((48 + n % 10) ∷ []), m, ap length (decimal_is (n / 10) (omega arith))))
 
-  pub length_more : 10 ≤ n → length (decimal n) ≡ length (decimal (n / 10)) + 1
-  length_more h = ap length (decimal-more n h) ∙ length-append (decimal (n / 10)) ((48 + n % 10) ∷ [])
+-- by the library's power of ten, and 0 for none
+pub len_is : (n : ℕ) (o : Option ℕ) → IfNone o (n ≡ 0) → IfSome o (λ k. 10 ^ k ≤ n) → IfSome o (λ k. n < 10 * 10 ^ k) → n < 2 ^ 64
+    → unwrap_or o 0 + 1 ≡ length (decimal n)
+len_is n (Some k) z p q h = sym (power-length k n p q h)
+len_is n None z p q h = rw (decimal_is n h) (ap length (sym (decimal_digit n (omega (arith, z)))))
 
-  pub decimal-some : 1 ≤ length (decimal n)
-  decimal-some = elim (dec_lt n 10) [ yes s ↦ omega (arith, length-small s) | no m ↦ omega (arith, length_more (omega arith)) ]
+-- ---- stored
 
-decimal-most : (k n : ℕ) → n < 10 ^ suc k → length (decimal n) ≤ suc k
-decimal-most zero n h = omega (arith, length-small n (omega arith))
-decimal-most (suc k) n h =
-    elim (dec_lt n 10) [
-      | yes s ↦ omega (arith, length-small n s)
-      | no m ↦ omega (arith, length_more n (omega arith), decimal-most k (n / 10) (omega (arith, pow-suc 10 (suc k))))
-    ]
+pub digits_length : (n : ℕ) → n < 2 ^ 64 → length (F.decimal n) ≡ length (decimal n)
+digits_length n h = ap length (sym (decimal_is n h))
 
--- 64 bits hold no number of more
-pub decimal-few : (n : ℕ) → Fits w64 n → length (decimal n) ≤ 20
-decimal-few n f = let l = f.fits in decimal-most 19 n (omega arith)
+pub digits_put : (l m : List ℕ) (at n r end : ℕ) → n < 2 ^ 64 → end ≡ at + length (decimal n) → r + length (F.decimal n) ≡ end
+    → drop r m ≡ F.decimal n ++ drop end l → take r m ≡ take r l → end ≤ length l → Put l at (decimal n) m end
+digits_put l m at n r end h e p d t room =
+    let k : r ≡ at = omega (arith, e, digits_length n h) in
+    record {
+      stored = sym (take-append-drop at m) ∙ rw (← k) (rw (t, d, ← decimal_is n h, e, k) refl)
+          ∙ sym (append_assoc (take at l) (decimal n) (drop (at + length (decimal n)) l)) ∙ sym (sets-eq (decimal n) l at (omega (arith, e)));
+      place = e;
+    }

@@ -1,5 +1,9 @@
 // Writers of numbers, comparators and refusals into lent bytes, for the normal text and the programs, and how many bytes each writes. Each writer writes from the byte
-// `at` on, and answers the place behind what it wrote.
+// `at` on, and answers the place behind what it wrote, as do all writers of this repository. A struct `Text` that holds the bytes and the place, with the writers as
+// its methods, was tried: it proves, but each contract says besides that the lent bytes are still the same ones, so that it is no plainer. `write!`
+// would put a `Display` into a `&mut [u8]`, but std does not promise which bytes then stand there, and a `Display` writes `str`, where identifiers are bytes.
+//
+// Numbers and comparators have a length beside their writer: refusal 7, a normal text longer than the lent bytes, is found before a byte is written (01).
 #![tactic(auto)]
 
 ghost use Rattle.std.specs.Prelude.{◌≡◌, ◌++◌, ◌+◌, ◌≤◌, length};
@@ -10,41 +14,32 @@ ghost use Rattle.partial.specs.Views.{op_of};
 ghost use Rattle.rows.specs.Put.{Put};
 ghost use Rattle.spelling.specs.Views.{dotted, spelled_triple};
 
+use itoa::write_digits;
 use partial::{Comparator, Op};
 
 // ---- numbers
 
 // How many digits a number has, in decimal without leading zeros.
+#[tactic(auto, using(crate::proofs::Decimals::len_is))]
 pub fn decimal_len(n: u64) -> usize
     ensures value { result ≡ length (decimal n) }
     ensures small { result ≤ 20 }
 {
-    let mut len = 1;
-    let mut rest = n;
-    while 10 <= rest {
-        rest = rest / 10;
-        len += 1;
-    }
-    len
+    // `as`: a usize has no From of a u32, and try_from would add an arm that no call takes.
+    n.checked_ilog10().unwrap_or(0) as usize + 1
 }
 
-// The digits are stored from the last to the first.
+#[tactic(auto, using(crate::proofs::Decimals::digits_length, crate::proofs::Decimals::digits_put))]
 pub fn put_decimal(out: &mut [u8], at: usize, n: u64) -> usize
     requires { at + length (decimal n) ≤ length out.old }
     ensures { Put out.old at (decimal n) out.new result }
 {
     let end = at + decimal_len(n);
-    let mut i = end - 1;
-    let mut front = n;
-    while 10 <= front {
-        out[i] = b'0' + (front % 10) as u8;
-        front = front / 10;
-        i -= 1;
-    }
-    out[i] = b'0' + front as u8;
+    write_digits(n, out, end);
     end
 }
 
+// The dot, and then as put_decimal.
 fn put_dot_decimal(out: &mut [u8], at: usize, n: u64) -> usize
     requires { at + length (bytes "." ++ decimal n) ≤ length out.old }
     ensures { Put out.old at (bytes "." ++ decimal n) out.new result }
@@ -53,7 +48,8 @@ fn put_dot_decimal(out: &mut [u8], at: usize, n: u64) -> usize
     put_decimal(out, at + 1, n)
 }
 
-// Three numbers with dots between.
+// Three numbers with dots between. triples::put_triple has the same three steps, but other bytes for each number and no dots.
+#[tactic(auto, using(crate::proofs::Triples::dottings), unfolding(crate::specs::Views::dotted))]
 fn put_triple(out: &mut [u8], at: usize, major: u64, minor: u64, patch: u64) -> usize
     requires { at + length (dotted major minor patch) ≤ length out.old }
     ensures { Put out.old at (dotted major minor patch) out.new result }
@@ -66,6 +62,7 @@ fn put_triple(out: &mut [u8], at: usize, major: u64, minor: u64, patch: u64) -> 
 // ---- bytes
 
 // Copies w.
+#[tactic(auto, using(crate::proofs::Copying::copied))]
 pub fn put_bytes(out: &mut [u8], at: usize, w: &[u8]) -> usize
     requires { at + length w.now ≤ length out.old }
     ensures { Put out.old at w.now out.new result }
@@ -75,7 +72,7 @@ pub fn put_bytes(out: &mut [u8], at: usize, w: &[u8]) -> usize
     end
 }
 
-// `refused`, a blank and the number.
+// `refused`, a blank and the number: any number, since a Refusal in its place would ask more of callers than this function does.
 pub fn put_refused(out: &mut [u8], at: usize, n: u64) -> usize
     requires { at + length (spell_refusal n) ≤ length out.old }
     ensures { Put out.old at (spell_refusal n) out.new result }
@@ -95,6 +92,7 @@ fn op_len(op: Op) -> usize
 }
 
 // How many bytes a comparator has without its identifiers.
+#[tactic(auto, using(crate::proofs::Triples::triples))]
 pub fn comparator_len(c: &Comparator<'_>) -> usize
     ensures value { result ≡ length (spelled_triple c.now) }
     ensures small { result ≤ 64 }
@@ -103,6 +101,7 @@ pub fn comparator_len(c: &Comparator<'_>) -> usize
 }
 
 // The operator, then major, minor and patch with dots between: a comparator without its identifiers.
+#[tactic(auto, using(crate::proofs::Triples::triples))]
 pub fn put_comparator(out: &mut [u8], at: usize, c: &Comparator<'_>) -> usize
     requires { at + length (spelled_triple c.now) ≤ length out.old }
     ensures { Put out.old at (spelled_triple c.now) out.new result }

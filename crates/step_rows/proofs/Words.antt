@@ -17,7 +17,7 @@ use Rattle.range.specs.declared.Component.TheVariants.{Major, Minor, Patch}
 use Rattle.walk.specs.Views.{Stepped}
 use Rattle.rows.specs.Views as Rows
 use Rattle.passes.specs.Views.{kept_under, raised_under, kept_gives, raised_gives, step_gives}
-use Rattle.step_rows.specs.declared.Item.{Item}
+use Rattle.rows.specs.declared.Item.{Item}
 use Rattle.step_rows.specs.Views.{item_at, rows_with, step_comparator_words, step_identifier_words}
 
 module _ (n k left size : ℕ) where

@@ -9,7 +9,7 @@ use Rattle.walk.specs.Views.{Stepped}
 use Rattle.rows.specs.Put.{Put}
 use Rattle.rows.proofs.Puts.{put_then, put-part, put_same}
 use Rattle.passes.specs.Views.{listed, counted, kept_gives, raised_gives}
-use Rattle.step_rows.specs.declared.Item.{Item}
+use Rattle.rows.specs.declared.Item.{Item}
 use Rattle.step_rows.specs.Views.{row_words, rows_with, step_comparator_words}
 
 -- ---- put_comparators

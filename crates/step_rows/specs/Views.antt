@@ -9,7 +9,7 @@ use Rattle.walk.specs.Views.{Stepped}
 use Rattle.rows.specs.Views as Rows
 use Rattle.rows.specs.Views.{comparator_words}
 use Rattle.passes.specs.Views.{kept_gives, raised_gives}
-use Rattle.step_rows.specs.declared.Item.{Item}
+use Rattle.rows.specs.declared.Item.{Item}
 
 -- an item of the range with this number, in a text of n bytes: so many are left where it begins
 unfoldable pub item_at : ℕ → ℕ → ℕ → ℕ → Item
@@ -18,7 +18,7 @@ item_at n k left size = record { range = k; place = n - left; size = size }
 -- the row of a comparator of this item, if there is one
 abbrev pub row_words : Item → Option Comparator → List ℕ
 row_words t None = []
-row_words t (Some c) = comparator_words t.range t.place t.size c
+row_words t (Some c) = comparator_words t c
 
 -- the rows of the rules' comparators, with so many identifiers
 abbrev pub rows_with : Item → ℕ → List E.Comparator → List ℕ

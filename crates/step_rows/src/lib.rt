@@ -1,4 +1,5 @@
-// The rows of a step of the walk: at most two comparators, and the identifiers of its partial.
+// The rows of a step of the walk: at most two comparators, and the identifiers of its partial. The normal text has the same, spelled (normal_text):
+// rows are words with places, a text is bytes, and only the comparators that both take from passes are one.
 #![tactic(auto)]
 
 ghost use Rattle.std.specs.Prelude.{◌+◌, ◌≤◌, length};
@@ -8,41 +9,34 @@ ghost use Rattle.step_rows.specs.Views.{row_words, step_comparator_words, step_i
 
 use partial::Comparator;
 use passes::{as_read, raised};
-use rows::{COMPARATOR_WORDS, put_comparator, put_identifiers};
+use rows::{COMPARATOR_WORDS, Item, put_comparator, put_identifiers};
 use walk::Step;
 
-// What rows are of: the number of the range, and the place and the size of the item in the text.
-#[derive(Clone, Copy)]
-pub struct Item {
-    pub range: u64,
-    pub place: usize,
-    pub size: usize,
-}
-
-// How many words of comparator rows are written, and how many of identifier rows.
+// How many words of comparator rows are written, and how many of identifier rows. The two slices stay apart from it and from one another: 01's call
+// lends both, and each range is lent the free parts of both, so that a struct of the three would be taken apart and made anew for each range.
 #[derive(Clone, Copy)]
 pub struct Written {
     pub words: usize,
     pub ids: usize,
 }
 
-// The row of a comparator, if there is one; answers how many words that is.
+// The row of a comparator, if there is one; answers how many words that is, as every writer does.
 fn put_row(words: &mut [u64], item: Item, comparator: Option<Comparator<'_>>) -> usize
     requires { length (row_words item comparator) ≤ length words.old }
     ensures { Put words.old 0 (row_words item comparator.entry) words.new result }
 {
     match comparator {
         Some(c) => {
-            put_comparator(words, item.range, item.place, item.size, c);
+            put_comparator(words, item, c);
             COMPARATOR_WORDS
         }
         None => 0,
     }
 }
 
-// The rows of a step's comparators.
+// The rows of a step's comparators; answers how many words those are.
 #[tactic(auto, using(crate::proofs::Writing::stepping))]
-fn put_comparators(words: &mut [u64], item: Item, x: &Step<'_>) -> usize
+pub fn put_comparators(words: &mut [u64], item: Item, x: &Step<'_>) -> usize
     requires { length (step_comparator_words item (step_is x.now)) ≤ length words.old }
     ensures { Put words.old 0 (step_comparator_words item (step_is x.now)) words.new result }
 {

@@ -6,8 +6,10 @@
 ghost use Rattle.std.specs.Prelude.{◌≤◌, IfOk, length};
 ghost use Rattle.streams.specs.Views.{IsPrefixLen};
 
+use arrayvec::ArrayString;
 use std::env::{Env, FillError};
-use std::io::{Cursor, ErrorKind, Read, Write};
+use std::fmt::Write as _;
+use std::io::{ErrorKind, Read, Write};
 use std::time::{Clock, Duration};
 use std::{fmt, io, str, thread};
 
@@ -26,14 +28,16 @@ fn wait(rt: &impl Clock, error: io::Error) -> io::Result<()> {
     }
 }
 
-// The error of tries that were counted to their end, a number that no run uses up.
+// The error of tries that were counted to their end, a number that no run uses up: a loop with no end is a handle that the programs are not allowed.
 fn tired() -> io::Error {
     io::Error::from(ErrorKind::Interrupted)
 }
 
 // ---- standard input
 
-// Reads some bytes to the start of buf, or none at the end of the input.
+// Reads some bytes to the start of buf, or none at the end of the input; answers how many, as the library's `read` does. The loop is that of
+// `Output::write` over another call: as one function over a closure for the call it did not prove, since behind it nothing is known of what the closure
+// left in buf.
 pub fn read(rt: &(impl io::Input + Clock), buf: &mut [u8]) -> io::Result<usize>
     ensures prefix_len { IfOk result (λ n. IsPrefixLen n buf.new) }
     ensures within { IfOk result (λ n. n ≤ length buf.old) }
@@ -47,7 +51,8 @@ pub fn read(rt: &(impl io::Input + Clock), buf: &mut [u8]) -> io::Result<usize>
     Err(tired())
 }
 
-// Reads to the start of buf until the input ends or buf is full.
+// Reads to the start of buf until the input ends or buf is full. The library's `read_exact` does not say how many bytes came before the end, and its
+// `read_to_end` needs a heap.
 pub fn read_all(rt: &(impl io::Input + Clock), buf: &mut [u8]) -> io::Result<usize>
     ensures { IfOk result (λ n. IsPrefixLen n buf.new) }
 {
@@ -82,7 +87,8 @@ impl<R: Print + Clock> Write for Output<'_, R> {
         Ok(())
     }
 
-    // As std's, but that its error is what the system would say of the kind.
+    // As std's, but that its error is what the system would say of the kind. Where nothing was taken it fails, and `read_all` ends: the two are not one
+    // loop.
     fn write_all(&mut self, text: &[u8]) -> io::Result<()> {
         let mut rest = text;
         while !rest.is_empty() {
@@ -97,7 +103,7 @@ impl<R: Print + Clock> Write for Output<'_, R> {
 
 // ---- standard error
 
-// Which stream failed, and why.
+// Which stream failed, and why. No two are compared.
 #[derive(Clone, Copy)]
 pub enum Failure {
     Input(io::Error),
@@ -111,11 +117,9 @@ impl fmt::Display for Failure {
             Failure::Input(error) => ("standard input", error),
             Failure::Output(error) => ("standard output", error),
         };
-        let mut said = Cursor::new([0u8; 256]);
+        let mut said = ArrayString::<256>::new();
         let _ = write!(said, "{error}");
-        let n = (said.position() as usize).min(256);
-        let all = said.into_inner();
-        let text = words(&all[..n]);
+        let text = said.as_str();
         let reason = text
             .split_once(" (os error ")
             .map_or(text, |(reason, _)| reason);
@@ -123,12 +127,12 @@ impl fmt::Display for Failure {
     }
 }
 
-// The text that standard error takes. Bytes that are none are left out.
+// The text that standard error takes. Callers pass bytes, and may pass any (a `&str` would ask more of them): where they are no text, nothing is written.
 fn words(bytes: &[u8]) -> &str {
     str::from_utf8(bytes).unwrap_or("")
 }
 
-// The line for a stream that failed, behind the program's name. Where the reader of a pipe is gone, that is no failure of the program's. Where
+// The line for a stream that failed, behind the program's name, with which each line on standard error begins. Where the reader of a pipe is gone, that is no failure of the program's. Where
 // standard error cannot be written either, there is nobody to tell.
 pub fn tell(rt: &impl Eprint, program: &[u8], done: Result<(), Failure>) {
     match done {
@@ -147,15 +151,17 @@ pub fn has_arg(rt: &impl Env, i: usize) -> bool {
     !matches!(rt.arg(i, &mut []), Err(FillError::NotPresent))
 }
 
+// The library's `arg` fills memory that it is lent, and answers how many bytes.
 fn is_help(rt: &impl Env) -> bool {
     let mut word = [0u8; 8];
-    match rt.arg(1, &mut word) {
-        Ok(n) => !has_arg(rt, 2) && matches!(&word[..n], b"--help"),
-        Err(_) => false,
-    }
+    let Ok(n) = rt.arg(1, &mut word) else {
+        return false;
+    };
+    !has_arg(rt, 2) && matches!(&word[..n], b"--help")
 }
 
-// How the program is called: to standard output where its one argument is `--help`, and to standard error where its arguments are wrong.
+// How the program is called: to standard output where its one argument is `--help`, and to standard error where its arguments are wrong. The two are
+// different handles, with a call each, so a writer that is chosen first is no shorter.
 pub fn put_usage(rt: &(impl Env + Print + Eprint + Clock), program: &[u8], usage: &[u8]) {
     if is_help(rt) {
         let done = Output(rt).write_all(usage);

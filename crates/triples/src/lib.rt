@@ -14,7 +14,8 @@ use spelling::put_bytes;
 
 // ---- compared
 
-// The derived order is 02's: the first difference decides (proofs/OrderLaws.antt).
+// The derived order is 02's: the first difference decides (proofs/OrderLaws.antt). A version and a comparator have the three numbers as fields of their own, since they
+// are read, raised and written one by one; with a Triple in them each would be named through it.
 #[derive(Clone, Copy, PartialEq, Eq, PartialOrd, Ord)]
 pub struct Triple {
     pub major: u64,
@@ -51,8 +52,9 @@ impl Bounds {
     }
 }
 
-// ---- numbers of eight bytes, the low ones first
+// ---- numbers of eight bytes, the low ones first: in memory of 02's layout, so by the place; as spelling's writers
 
+#[tactic(auto, using(memory::proofs::Numbers::number_eight))]
 fn eight_at(s: &[u8], at: usize) -> u64
     requires { at + 8 ≤ length s.now }
     ensures { result ≡ number_in (take 8 (drop at s.now)) }
@@ -61,6 +63,7 @@ fn eight_at(s: &[u8], at: usize) -> u64
 }
 
 // The place behind them is answered.
+#[tactic(auto, using(memory::proofs::Numbers::low_eight))]
 fn put_eight(s: &mut [u8], at: usize, v: u64) -> usize
     requires { at + 8 ≤ length s.old }
     ensures { Put s.old at (low_first 8 v) s.new result }
@@ -68,7 +71,8 @@ fn put_eight(s: &mut [u8], at: usize, v: u64) -> usize
     put_bytes(s, at, &v.to_le_bytes())
 }
 
-// ---- triples in lent bytes
+// ---- triples in lent bytes: "six 64-bit numbers" (02, N3), one behind another; as spelling's writers. A triple and two of them are read and put by the same steps, each
+// over a type of its own.
 
 // Three numbers of eight bytes.
 const TRIPLE_BYTES: usize = 24;

@@ -1,4 +1,3 @@
 pub mod Answering
 pub mod Lines
 pub mod Ranges
-pub mod Parts

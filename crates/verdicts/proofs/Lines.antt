@@ -56,9 +56,6 @@ module _ (s l : List ℕ) where
     unfolding answer_line
     long-put m t h = rw (lt-leb (length s) longest h) p
 
-    pub long-within : verdict_room ≤ length l → k ≤ length y
-    long-within r = omega (arith, put_same p, p.place)
-
   module _ (a : Result Bool Refusal) (h : length s ≤ longest) where
     pub short-room : verdict_room ≤ length l → length (verdict_line s (answer_of a)) ≤ length l
     short-room r = omega (arith, line-length s (answer_of a), answer-short a)
@@ -68,7 +65,4 @@ module _ (s l : List ℕ) where
       unfolding answer_line
       short-put m t e = rw (← e, le-leb (length s) longest h) p
 
-      pub short-within : verdict_room ≤ length l → k ≤ length y
-      short-within r = omega (arith, line-length s (answer_of a), answer-short a, put_same p, p.place)
-
-pub ruleset verdicts = (long-put, long-within, short-room, short-put, short-within)
+pub ruleset verdicts = (long-put, short-room, short-put)

@@ -1,14 +1,15 @@
 -- What follows the numbers of a version: identifiers behind a sign, and both parts to the end of the text.
 -- Assumes nothing.
-use Rattle.std.proofs.Common.{ℕ, ◌≡◌, ◌-◌, ◌≤◌, get_or, List, [], ◌∷◌, length, take, drop, refl, ap, arith, Some, None}
+use Rattle.std.proofs.Common.{ℕ, ◌≡◌, ◌-◌, ◌≤◌, get_or, List, [], ◌∷◌, length, take, drop, refl, ap, arith, Option, Some, None, IfSome, Bor}
 use borrow.Author.Tests.{eq-eqb, ne_eqb}
-use Rattle.rules.specs.Parse.{Result, fail, ok, ◌then◌, choose, literal, at_end, list_of}
-use Rattle.rules.specs.Version.{read_word, read_version_identifier, read_series, version_identifiers_in}
+use Rattle.rules.specs.Parse.{Result, fail, ok, ◌then◌, choose, all, literal, at_end, list_of}
+use Rattle.rules.specs.Version.{read_word, read_version_identifier, read_after_dot, read_series, version_identifiers_in}
 use Rattle.rules.proofs.Results.{Gives, given}
 use Rattle.rules.proofs.Left.{Behind, behind-left, rest_in}
 use Rattle.lexer.specs.Views as L
-use Rattle.lexer.specs.Views.{Takes, counted}
-use Rattle.version.specs.Views.{found_by, series_of, read_tail, tail_of}
+use Rattle.lexer.specs.Views.{Takes, found_by, series_of, series_in, begun}
+use Rattle.lexer.specs.declared.Identifiers.{Identifiers}
+use Rattle.version.specs.Views.{read_tail, tail_of}
 
 -- ---- identifiers behind a sign
 
@@ -22,20 +23,27 @@ module _ {A : Type 0} (f : List ℕ → Result A) (sign : ℕ) (s : List ℕ) wh
         go [] h e = absurd (omega arith)
         go (c ∷ s) h e = rw (eq-eqb c sign e, rest_in (c ∷ s) 1)
 
-    pub series_some : (n : ℕ) (r : List ℕ) → ok n r ≡ counted (L.read_series f (take (length s - 1) (drop 1 s)))
-        → ok (n, found_by f (take (length s - 1) (drop 1 s))) r ≡ series_of (read_series (sign ∷ []) f s)
-    series_some n r k = rw signed_is (go (L.read_series f (take (length s - 1) (drop 1 s))) k)
-      where
-        go : (g : Result (List A)) → ok n r ≡ counted g → ok (n, list_of g) r ≡ series_of g
-        go fail k = cc
-        go (ok l t) k = let i : n ≡ length l = cc in let j : r ≡ t = cc in rw (i, j)
+    pub series_behind : (o : Option Identifiers) → series_in f o ≡ series_of (L.read_series f (take (length s - 1) (drop 1 s)))
+        → series_in f o ≡ series_of (read_series (sign ∷ []) f s)
+    series_behind o k = rw signed_is k
 
-    pub series_broken : fail ≡ counted (L.read_series f (take (length s - 1) (drop 1 s))) → fail ≡ series_of (read_series (sign ∷ []) f s)
-    series_broken k = rw signed_is (go (L.read_series f (take (length s - 1) (drop 1 s))) k)
+    -- where there are identifiers, their text is what stands behind the sign
+    pub series_text : (o : Option Identifiers) (t : Bor (List ℕ)) → t.now ≡ take (length s - 1) (drop 1 s)
+        → series_in f o ≡ series_of (L.read_series f t.now) → IfSome o (λ x. x.text ≡ t)
+        → IfSome o (λ x. x.text.now ≡ begun (list_of (read_series (sign ∷ []) f s)) (drop 1 s))
+    unfolding L.read_series ◌then◌
+    series_text None t i k q = q
+    series_text (Some x) t i k q = rw (q, i, signed_is, rest_in s 1) (first (f (drop 1 s)) (rw (i, rest_in s 1) at k))
       where
-        go : (g : Result (List A)) → fail ≡ counted g → fail ≡ series_of g
-        go fail k = refl
-        go (ok l t) k = cc
+        further : (a : A) (g : Result (List A)) → series_in f (Some x) ≡ series_of (g then λ l r. ok (a ∷ l) r)
+            → drop 1 s ≡ begun (list_of (g then λ l r. ok (a ∷ l) r)) (drop 1 s)
+        further a fail k = cc
+        further a (ok l r) k = refl
+
+        first : (g : Result A) → series_in f (Some x) ≡ series_of (g then λ a t. all (read_after_dot f) t then λ l r. ok (a ∷ l) r)
+            → drop 1 s ≡ begun (list_of (g then λ a t. all (read_after_dot f) t then λ l r. ok (a ∷ l) r)) (drop 1 s)
+        first fail k = cc
+        first (ok a u) k = further a (all (read_after_dot f) u) k
 
   found_none : Takes f → found_by f [] ≡ []
   unfolding L.read_series ◌then◌
@@ -53,7 +61,15 @@ module _ {A : Type 0} (f : List ℕ → Result A) (sign : ℕ) (s : List ℕ) wh
       go [] h = refl
       go (c ∷ s) h = rw (ne_eqb c sign (h (omega arith)))
 
-pub ruleset series = (series_some, series_broken, series_none)
+  pub series_unsigned : (1 ≤ length s → get_or s 0 0 ≡ sign → ⊥) → (t : List ℕ) → [] ≡ begun (list_of (read_series (sign ∷ []) f s)) t
+  unfolding read_series choose literal
+  series_unsigned h t = go s h
+    where
+      go : (s : List ℕ) → (1 ≤ length s → get_or s 0 0 ≡ sign → ⊥) → [] ≡ begun (list_of (read_series (sign ∷ []) f s)) t
+      go [] h = refl
+      go (c ∷ s) h = rw (ne_eqb c sign (h (omega arith)))
+
+pub ruleset series = (series_behind, series_text, series_none, series_unsigned)
 
 -- ---- to the end of the text
 
@@ -88,6 +104,14 @@ module _ (s : List ℕ) where
           go [] z = refl
           go (c ∷ v) z = absurd (omega arith)
 
+      pub tail_text : length v ≡ 0 → list_of (read_series (45 ∷ []) read_version_identifier s) ≡ list_of (read_tail s)
+      unfolding read_tail ◌then◌ at_end
+      tail_text z = rw ((series_is _ _ _ _ e).0, (series_is _ _ _ _ k).0) (go v z)
+        where
+          go : (v : List ℕ) → length v ≡ 0 → found_by read_version_identifier t ≡ list_of (at_end v then λ u e. ok (found_by read_version_identifier t) e)
+          go [] z = refl
+          go (c ∷ v) z = absurd (omega arith)
+
       pub tail_more : (length v ≡ 0 → ⊥) → None ≡ tail_of (read_tail s)
       unfolding read_tail ◌then◌ at_end
       tail_more z = rw ((series_is _ _ _ _ e).0, (series_is _ _ _ _ k).0) (go v z)
@@ -96,4 +120,4 @@ module _ (s : List ℕ) where
           go [] z = absurd (z refl)
           go (c ∷ v) z = refl
 
-pub ruleset tails = (tail_unread, tail_unbuilt, tail_whole, tail_more)
+pub ruleset tails = (tail_unread, tail_unbuilt, tail_whole, tail_text, tail_more)

@@ -4,18 +4,18 @@ use Rattle.std.proofs.Common.{ℕ, ◌≡◌, ◌<◌, ◌≤◌, Bool, true, fa
 use borrow.Author.Tests.{le-leb, lt-leb}
 use Rattle.rules.specs.Bytes.{bytes, pick, value}
 use Rattle.rules.specs.Syntax.{Identifier}
-use Rattle.rules.specs.Parse.{Result, fail, ok, ◌then◌, read_number, at_end}
+use Rattle.rules.specs.Parse.{Result, fail, ok, ◌then◌, read_number, at_end, list_of}
 use Rattle.rules.specs.Answers.{Answer, accepted, refused, unless, fits, longest}
 use Rattle.rules.specs.Version as R
 use Rattle.rules.specs.Version.{version, read_word, read_version_identifier, read_after_dot, read_series, read_version, version_identifiers_in}
 use Rattle.rules.specs.Admission.{versioned, version_fits, version_of}
 use Rattle.rules.proofs.VersionAccepted.{Decided, long, underivable, large, accepts, decided}
-use Rattle.lexer.specs.Views.{fitting}
-use Rattle.lexer.specs.declared.Qualifier.{Qualifier}
-use Rattle.version.specs.Views.{read_numbers, numbers_of, read_tail, tail_in, tail_of, numbered, version_is, version_in, version_text_of}
+use Rattle.lexer.specs.Views.{fitting, begun}
+use Rattle.lexer.specs.declared.Identifiers.{Identifiers}
+use Rattle.version.specs.Views.{read_numbers, numbers_of, read_tail, tail_in, tail_of, numbered, version_is, version_in, version_text_of, beginning}
 use Rattle.version.specs.declared.Version.{Version}
 use Rattle.std.specs.Prelude as Std
-use Rattle.std.specs.Prelude.{Ok, Err}
+use Rattle.std.specs.Prelude.{Ok, Err, IfOk, ok_or, drop}
 use Rattle.refusals.specs.declared.Refusal.{Refusal}
 use Rattle.refusals.specs.declared.Refusal.TheVariants.{NoVersion, VersionTooLarge}
 use Rattle.refusals.specs.Views.{number_of}
@@ -80,7 +80,7 @@ abbrev text : Option Version → Std.Result (R.Version × ℕ) Refusal
 text None = Err VersionTooLarge
 text (Some x) = version_in (Ok x)
 
-module _ (i j k : ℕ) (q : Qualifier) (is : List Identifier) (n : q.count ≡ length is) (e : version_identifiers_in q.identifiers.now ≡ is) where
+module _ (i j k : ℕ) (q : Identifiers) (is : List Identifier) (n : q.count ≡ length is) (e : version_identifiers_in q.text.now ≡ is) where
   fit : (a b c : Option ℕ) → a ≡ fitting i → b ≡ fitting j → c ≡ fitting k
       → text (numbered a b c q) ≡ version_text_of (pick (version_fits (version i j k is)) (accepted (version i j k is)) (refused 9))
   unfolding version_text_of version_fits
@@ -146,7 +146,7 @@ module _ (s : List ℕ) (h : length s ≤ 65535) where
         go fail k = refl
         go (ok is r) k = cc
 
-    module _ (q : Qualifier) (k : tail_in (Some q) ≡ tail_of (read_tail v)) where
+    module _ (q : Identifiers) (k : tail_in (Some q) ≡ tail_of (read_tail v)) where
       read : text (numbered a b c q) ≡ version_text_of (version_of s)
       unfolding versioned ◌then◌
       read = rw (answer-is _ numbered_is.is) (go (read_tail v) k)
@@ -155,7 +155,7 @@ module _ (s : List ℕ) (h : length s ≤ 65535) where
               → text (numbered a b c q) ≡ version_text_of (unless 9 version_fits (versioned (y then λ is e. ok (version numbered_is.major numbered_is.minor numbered_is.patch is) e)))
           go fail k = cc
           go (ok is r) k =
-              let p : ◌≡◌ {A = ℕ × List Identifier} (q.count, version_identifiers_in q.identifiers.now) (length is, is) = cc in
+              let p : ◌≡◌ {A = ℕ × List Identifier} (q.count, version_identifiers_in q.text.now) (length is, is) = cc in
               fit numbered_is.major numbered_is.minor numbered_is.patch q is (ap (λ y. y.0) p) (ap (λ y. y.1) p) a b c numbered_is.major_is numbered_is.minor_is numbered_is.patch_is
 
       pub version_read : (x : Version) → Some x ≡ numbered a b c q → version_in (Ok x) ≡ version_text_of (version_of s)
@@ -186,3 +186,34 @@ module _ (s : List ℕ) (w : Std.Result Version Refusal) (e : version_in w ≡ v
       go (underivable u) k j = let z : y ≡ NoVersion = cc in rw z k
       go (large l d f) k j = let z : y ≡ VersionTooLarge = cc in rw z k
       go (accepts {v = version a b c is} l d f) k j = cc
+
+-- ---- the text of the prerelease identifiers
+
+abbrev Begins : List ℕ → Std.Result Version Refusal → Type 0
+Begins s r = IfOk r (λ v. v.prerelease.now ≡ beginning s)
+
+module _ (s : List ℕ) (h : length s ≤ 65535) (a b c : Option ℕ) (v : List ℕ) (e : ok (a, b, c) v ≡ numbers_of (read_numbers s)) where
+  module _ (q : Identifiers) (k : tail_in (Some q) ≡ tail_of (read_tail v)) (t : q.text.now ≡ begun (list_of (read_tail v)) (drop 1 v)) where
+    text_is : (x : Version) → Some x ≡ numbered a b c q → x.prerelease.now ≡ beginning s
+    unfolding beginning
+    text_is x n = rw (version_held s (Ok x) (version_read s h a b c v e q k x n) x refl, numbered_text a b c n, (numbered_is s h a b c v e).is) (listed (read_tail v) k t)
+      where
+        numbered_text : (a b c : Option ℕ) → Some x ≡ numbered a b c q → x.prerelease ≡ q.text
+        numbered_text None b c n = cc
+        numbered_text (Some a) None c n = cc
+        numbered_text (Some a) (Some b) None n = cc
+        numbered_text (Some a) (Some b) (Some c) n =
+            let i : x ≡ record { major = a; minor = b; patch = c; count = q.count; prerelease = q.text } = cc in ap (λ v. v.prerelease) i
+
+        listed : (g : Result (List Identifier)) → tail_in (Some q) ≡ tail_of g → q.text.now ≡ begun (list_of g) (drop 1 v)
+            → q.text.now ≡ begun (version_identifiers_in q.text.now) (drop 1 v)
+        listed fail k t = cc
+        listed (ok is r) k t = let p : ◌≡◌ {A = ℕ × List Identifier} (q.count, version_identifiers_in q.text.now) (length is, is) = cc in t ∙ ap (λ l. begun l (drop 1 v)) (sym (ap (λ y. y.1) p))
+
+    pub version_text : (o : Option Version) → o ≡ numbered a b c q → (y : Refusal) → Begins s (ok_or o y)
+    version_text None n y = _
+    version_text (Some x) n y = text_is x n
+
+pub some_of : {A : Type 0} (o : Option A) (y : Refusal) (x : A) → ok_or o y ≡ Ok x → o ≡ Some x
+some_of None y x e = cc
+some_of (Some z) y x e = cc

@@ -2,17 +2,17 @@
 -- are and the text that they begin.
 -- Assumes nothing.
 use Rattle.std.specs.Prelude as Std
-use Rattle.std.specs.Prelude.{Ok, Err, ℕ, List, [], Bool, ◌&&◌, eqb, length, Option, Some, None}
+use Rattle.std.specs.Prelude.{Ok, Err, ℕ, List, [], Bool, ◌&&◌, eqb, length, drop, Option, Some, None}
 use Rattle.rules.specs.Lists.{each}
 use Rattle.rules.specs.Bytes.{bytes, pick, is_digit, value}
 use Rattle.rules.specs.Syntax.{Identifier}
-use Rattle.rules.specs.Parse.{Result, fail, ok, ◌then◌, read_number, at_end, list_of}
+use Rattle.rules.specs.Parse.{Result, fail, ok, ◌then◌, read_number, at_end}
 use Rattle.rules.specs.Answers.{Answer, accepted, refused}
 use Rattle.rules.specs.Version as R
 use Rattle.rules.specs.Version.{version, read_word, leads_zero, read_version_identifier, read_after_dot, read_series, version_identifiers_in}
-use Rattle.lexer.specs.Views as L
-use Rattle.lexer.specs.Views.{fitting}
-use Rattle.lexer.specs.declared.Qualifier.{Qualifier}
+use Rattle.lexer.specs.Views.{fitting, begun, on_rest}
+use Rattle.rules.specs.Admission.{version_of}
+use Rattle.lexer.specs.declared.Identifiers.{Identifiers}
 use Rattle.version.specs.declared.Numbers.{Numbers}
 use Rattle.version.specs.declared.Version.{Version}
 use Rattle.refusals.specs.declared.Refusal.{Refusal}
@@ -23,19 +23,6 @@ use Rattle.refusals.specs.declared.Refusal.TheVariants.{NoVersion, VersionTooLar
 -- a word is digits alone that begin with a zero, and not 0
 unfoldable pub padded : List ℕ → Bool
 padded w = each is_digit w && leads_zero w
-
--- the identifiers with dots between that a text begins with
-abbrev pub found_by : {A : Type 0} → (List ℕ → Result A) → List ℕ → List A
-found_by f t = list_of (L.read_series f t)
-
--- how many identifiers a series has, and which they are
-abbrev pub series_of : {A : Type 0} → Result (List A) → Result (ℕ × List A)
-series_of fail = fail
-series_of (ok l r) = ok (length l, l) r
-
-abbrev pub series_in : {A : Type 0} → (List ℕ → Result A) → Option Qualifier → Result (ℕ × List A)
-series_in f None = fail
-series_in f (Some q) = ok (q.count, found_by f q.identifiers.now) q.left.now
 
 -- ---- the numbers
 
@@ -65,18 +52,18 @@ abbrev pub tail_of : Result (List Identifier) → Option (ℕ × List Identifier
 tail_of fail = None
 tail_of (ok is r) = Some (length is, is)
 
-abbrev pub tail_in : Option Qualifier → Option (ℕ × List Identifier)
+abbrev pub tail_in : Option Identifiers → Option (ℕ × List Identifier)
 tail_in None = None
-tail_in (Some q) = Some (q.count, version_identifiers_in q.identifiers.now)
+tail_in (Some q) = Some (q.count, version_identifiers_in q.text.now)
 
 -- ---- versions
 
 -- with what follows the numbers, where none is too large
-abbrev pub numbered : Option ℕ → Option ℕ → Option ℕ → Qualifier → Option Version
+abbrev pub numbered : Option ℕ → Option ℕ → Option ℕ → Identifiers → Option Version
 numbered None b c q = None
 numbered (Some a) None c q = None
 numbered (Some a) (Some b) None q = None
-numbered (Some a) (Some b) (Some c) q = Some (record { major = a; minor = b; patch = c; count = q.count; prerelease = q.identifiers })
+numbered (Some a) (Some b) (Some c) q = Some (record { major = a; minor = b; patch = c; count = q.count; prerelease = q.text })
 
 -- the rules' version for the code's
 abbrev pub version_is : Version → R.Version
@@ -91,3 +78,13 @@ version_in (Err r) = Err r
 unfoldable pub version_text_of : Answer R.Version → Std.Result (R.Version × ℕ) Refusal
 version_text_of (accepted (version a b c is)) = Ok (version a b c is, length is)
 version_text_of (refused n) = Err (pick (eqb n 8) NoVersion VersionTooLarge)
+
+abbrev pub prerelease_of : Answer R.Version → List Identifier
+prerelease_of (accepted (version a b c is)) = is
+prerelease_of (refused n) = []
+
+-- the text that the prerelease identifiers of the version s begin: what stands behind the sign, which is behind the numbers; where there are
+-- none, it is empty
+unfoldable pub beginning : List ℕ → List ℕ
+unfolding read_numbers
+beginning s = begun (prerelease_of (version_of s)) (on_rest (drop 1) (read_numbers s))

@@ -2,19 +2,20 @@
 // part of the text from its place on, and hands back what is left behind what it read, or nothing where it read nothing.
 #![tactic(auto)]
 
-ghost use Rattle.std.specs.Prelude.{◌≡◌, [], ◌∷◌, ℕ, List};
+ghost use Rattle.std.specs.Prelude.{◌≡◌, [], ◌∷◌, ℕ, List, drop, IfSome, IfOk};
 ghost use Rattle.rules.specs.Syntax.{Identifier};
+ghost use Rattle.rules.specs.Parse.{list_of};
 ghost use Rattle.rules.specs.Version.{read_word, read_version_identifier, read_series};
 ghost use Rattle.rules.specs.Admission.{version_of};
-ghost use Rattle.lexer.specs.Views.{rest_in, rest_of};
-ghost use Rattle.version.specs.Views.{padded, series_in, series_of, read_numbers, numbers_in, numbers_of, read_tail, tail_in, tail_of, numbered, version_in, version_text_of};
+ghost use Rattle.lexer.specs.Views.{rest_in, rest_of, series_in, series_of, begun};
+ghost use Rattle.version.specs.Views.{padded, read_numbers, numbers_in, numbers_of, read_tail, tail_in, tail_of, numbered, version_in, version_text_of, beginning};
 ghost use Rattle.version.specs.Takes.{word-takes, identifier-takes};
 
 use lexer::{
-    Class, Digit, Qualifier, Reader, Word, before, read_dot_number, read_number, skip_identifiers,
-    skip_run,
+    Class, Digit, Identifiers, Reader, Word, before, read_dot_number, read_number,
+    skip_identifiers, skip_run,
 };
-use refusals::Refusal;
+use refusals::{LONGEST, Refusal};
 
 // ---- identifiers
 
@@ -74,23 +75,19 @@ impl Reader for Build {
     ghost takes = { word-takes };
 }
 
-// A sign, and identifiers with dots between; none where there is no sign.
+// A sign, and identifiers with dots between; none where there is no sign. Where no identifier stands behind the sign, nothing is read, while
+// `skip_qualifier` leaves such a sign of a range. The sign is given beside the reader: as a method of the trait
+// it would be three functions with their ghost members for the two calls below.
 #[tactic(auto, using(crate::proofs::Tails::series))]
-fn skip_series<R: Reader>(s: &[u8], sign: u8) -> Option<Qualifier<'_>>
-    ensures { series_in R.reads result ≡ series_of (read_series (sign ∷ []) R.reads s.now) }
+fn skip_series<R: Reader>(s: &[u8], sign: u8) -> Option<Identifiers<'_>>
+    ensures answer { series_in R.reads result ≡ series_of (read_series (sign ∷ []) R.reads s.now) }
+    ensures text { IfSome result (λ found. found.text.now ≡ begun (list_of (read_series (sign ∷ []) R.reads s.now)) (drop 1 s.now)) }
 {
     match s {
-        [b, identifiers @ ..] if *b == sign => {
-            let found = skip_identifiers::<R>(identifiers)?;
-            Some(Qualifier {
-                count: found.count,
-                identifiers,
-                left: found.left,
-            })
-        }
-        _ => Some(Qualifier {
+        [b, identifiers @ ..] if *b == sign => skip_identifiers::<R>(identifiers),
+        _ => Some(Identifiers {
             count: 0,
-            identifiers: &[],
+            text: &[],
             left: s,
         }),
     }
@@ -115,6 +112,7 @@ fn read_numbers(s: &[u8]) -> Option<Numbers<'_>>
     let major = read_number(s)?;
     let minor = read_dot_number(major.left)?;
     let patch = read_dot_number(minor.left)?;
+    // Each field comes from another reader.
     Some(Numbers {
         major: major.value,
         minor: minor.value,
@@ -125,8 +123,9 @@ fn read_numbers(s: &[u8]) -> Option<Numbers<'_>>
 
 // The prerelease identifiers, where what follows the numbers is a version's to its end.
 #[tactic(auto, using(crate::proofs::Tails::tails))]
-fn read_tail(s: &[u8]) -> Option<Qualifier<'_>>
-    ensures { tail_in result ≡ tail_of (read_tail s.now) }
+fn read_tail(s: &[u8]) -> Option<Identifiers<'_>>
+    ensures answer { tail_in result ≡ tail_of (read_tail s.now) }
+    ensures text { IfSome result (λ found. found.text.now ≡ begun (list_of (read_tail s.now)) (drop 1 s.now)) }
 {
     let prerelease = skip_series::<Prerelease>(s, b'-')?;
     let build = skip_series::<Build>(prerelease.left, b'+')?;
@@ -148,7 +147,7 @@ pub struct Version<'a> {
 
 impl Numbers<'_> {
     // The version of these numbers, where none is too large.
-    fn version<'a>(self, prerelease: Qualifier<'a>) -> Option<Version<'a>>
+    fn version<'a>(self, prerelease: Identifiers<'a>) -> Option<Version<'a>>
         ensures { result ≡ numbered self.entry.major self.entry.minor self.entry.patch prerelease.entry }
     {
         Some(Version {
@@ -156,7 +155,7 @@ impl Numbers<'_> {
             minor: self.minor?,
             patch: self.patch?,
             count: prerelease.count,
-            prerelease: prerelease.identifiers,
+            prerelease: prerelease.text,
         })
     }
 }
@@ -164,9 +163,10 @@ impl Numbers<'_> {
 // The version that the text is: refused where it is none or too long (8), or where a number of it is too large (9).
 #[tactic(auto, using(crate::proofs::VersionLaws::versions))]
 pub fn read_version(s: &[u8]) -> Result<Version<'_>, Refusal>
-    ensures { version_in result ≡ version_text_of (version_of s.now) }
+    ensures answer { version_in result ≡ version_text_of (version_of s.now) }
+    ensures text { IfOk result (λ v. v.prerelease.now ≡ beginning s.now) }
 {
-    if 65535 < s.len() {
+    if s.len() > LONGEST {
         return Err(Refusal::NoVersion);
     }
     let n = read_numbers(s).ok_or(Refusal::NoVersion)?;

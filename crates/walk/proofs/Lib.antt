@@ -1,3 +1,4 @@
 pub mod Opened
 pub mod Shapes
+pub mod Gaps
 pub mod Steps

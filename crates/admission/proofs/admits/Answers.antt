@@ -1,15 +1,25 @@
-use borrow.Author.Rules.{rules}
-use Rattle.admission.proofs.Admitting.{admitting, admits_fewer}
+use Rattle.std.proofs.Common.{sym}
+use Rattle.walk.specs.Views.{step_is}
+use Rattle.admission.proofs.Admitting.{admitting_start, admits_some, admits_fewer, admits_ended, admits_within}
+use Rattle.admission.proofs.admits.Goals.{then-ends_range+else-all, else-ends_range}
 use Rattle.admission.proofs.admits.Goals as goal
 
-pub returns-in_default : goal.returns-in_default
-returns-in_default c = search (admitting, rules)
+pub loop-step-init : goal.loop-step-init
+loop-step-init c = let set = c.args.set.now in admitting_start _ _ _ set.counts set.counted (step_is set.first) set.starts
 
-pub returns-then-ended-met : goal.returns-then-ended-met
-returns-then-ended-met c = search (admitting, rules)
+pub returns-then-all : goal.returns-then-all
+returns-then-all c = admits_some _ _ _ _ _ c.in-Some.x c.loop-step.invariant c.in-Some.is _ c.meets_step-all.ensures (sym c.if-ends_range.ensures) c.if-all.true
 
-pub unwrap-x-requires : goal.unwrap-x-requires
-unwrap-x-requires c = search (admitting, rules)
+pub loop-step-smaller : goal.loop-step-smaller
+loop-step-smaller c = admits_fewer _ _ _ _ _ c.in-Some.x c.loop-step.invariant c.in-Some.is _ c.following-step.ensures.answer
 
-pub loop-x-smaller : goal.loop-x-smaller
-loop-x-smaller c = admits_fewer _ _ _ _ c.loop-x.x c.loop-x.invariant _ _ c.in-Some.is c.unwrap-x.result (rw c.unwrap-x.ensures at c.next.ensures)
+pub loop-step-preserved : goal.loop-step-preserved
+loop-step-preserved c =
+    elim c.if-ends_range.branch [
+      | then-ends_range+else-all w ↦
+          rw w.all-is
+          (admits_ended _ _ _ _ _ c.in-Some.x c.loop-step.invariant c.in-Some.is _ c.following-step.ensures.answer _ c.meets_step-all.ensures (sym w.if-ends_range.ensures) w.if-all.false)
+      | else-ends_range w ↦
+          rw w.all-is
+          (admits_within _ _ _ _ _ c.in-Some.x c.loop-step.invariant c.in-Some.is _ c.following-step.ensures.answer _ c.meets_step-all.ensures (sym w.if-ends_range.ensures))
+    ]

@@ -1,3 +1,4 @@
+-- Not found by the check with these laws named on the function.
 use Rattle.bounds.proofs.Bounding.{step_ranged_by}
 use Rattle.bounds.proofs.with_step.Goals as goal
 

@@ -1,3 +1,4 @@
+-- The check does not find these with the three laws of Comparing named on the function.
 use Rattle.std.proofs.lemmas.Result.{err_from_is_err_and}
 use Rattle.equality.proofs.Comparing.{first-refused, second-refused, second-accepted}
 use Rattle.equality.proofs.check_both.Goals as goal

@@ -1,6 +1,6 @@
+-- The check finds neither: not the refusal with the clauses of written_ways, which are named on the function, nor the two requirements of compare.
 use Rattle.std.proofs.lemmas.Result.{err_from_is_err_and}
-use Rattle.equality.proofs.Comparing.{refused-result, refused-first, refused-second, refused-tells, writes-first, writes-second, written-ways}
-use borrow.Author.Rules.{rules}
+use Rattle.equality.proofs.Comparing.{refused-result, refused-first, refused-second, refused-tells, writes-first, writes-second}
 use Rattle.equality.proofs.equal_readings.Goals as goal
 
 pub returns-in_err-check_both : goal.returns-in_err-check_both
@@ -19,6 +19,3 @@ pub compare-requires : goal.compare-requires
 compare-requires c =
     let x = c.in_ok-check_both.ensures in
     record { fits = writes-first _ _ _ _ _ _ x; fits_2 = writes-second _ _ _ _ _ _ x }
-
-pub returns : goal.returns
-returns c = search (written-ways, c.in_ok-check_both.ensures, rules)

@@ -1,3 +1,4 @@
+-- Not found by the check without, nor with the laws named on the function.
 use Rattle.normal_text.proofs.Spelled.{one_put}
 use Rattle.normal_text.proofs.put_after.Goals as goal
 

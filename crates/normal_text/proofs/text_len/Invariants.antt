@@ -1,12 +1,12 @@
-use Rattle.normal_text.proofs.Texts.{Counting}
+use Rattle.normal_text.proofs.Texts.{Counting, steps_ahead}
 use Rattle.range.specs.Views.{compat_of}
-use Rattle.walk.specs.Views.{next_is}
-use Rattle.passes.proofs.Turn.{ahead}
+use Rattle.walk.specs.Views.{step_in}
+use Rattle.passes.proofs.Due.{Awaited}
 use Rattle.normal_text.specs.Views.{gap_of}
 use Rattle.normal_text.proofs.text_len.Given as goal
 
-abbrev pub invariant-loop-at : goal.invariant-loop-at
-invariant-loop-at l = Counting (compat_of l.compat) l.s l.len (gap_of l.gap) (next_is l.at)
+abbrev pub invariant-loop-step : goal.invariant-loop-step
+invariant-loop-step l = Awaited (compat_of l.set.compat) (Counting (compat_of l.set.compat) l.set.text.now l.len (gap_of l.gap)) (step_in l.step)
 
-abbrev pub decreases-loop-at : goal.decreases-loop-at
-decreases-loop-at l = ahead (next_is l.at)
+abbrev pub decreases-loop-step : goal.decreases-loop-step
+decreases-loop-step l = steps_ahead (step_in l.step)

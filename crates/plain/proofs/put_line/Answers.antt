@@ -1,3 +1,4 @@
+-- With these laws named on the function, the check finds neither; the search of each answer does.
 use Rattle.plain.proofs.Lines.{lines}
 use borrow.Author.Rules.{rules}
 use Rattle.plain.proofs.put_line.Goals as goal

@@ -1,3 +1,4 @@
+-- Not found by the check without, with the laws named on the function.
 use Rattle.precedence.proofs.Orders.{digits_compared}
 use Rattle.precedence.proofs.compare_digits.Goals as goal
 

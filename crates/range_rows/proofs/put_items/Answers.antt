@@ -16,7 +16,7 @@ returns-in_default c =
     }
 
 pub unreachable-requires : goal.unreachable-requires
-unreachable-requires c = listing_next c.loop-left.invariant c.in-Some.ensures c.in_default-next.ensures
+unreachable-requires c = listing_next c.loop-left.invariant c.in-Some.ensures c.in_default-next.ensures.answer
 
 pub loop-left-smaller : goal.loop-left-smaller
-loop-left-smaller c = listing_fewer c.loop-left.invariant c.in-Some.ensures c.in-Some-next.ensures
+loop-left-smaller c = listing_fewer c.loop-left.invariant c.in-Some.ensures c.in-Some-next.ensures.answer

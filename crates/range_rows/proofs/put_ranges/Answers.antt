@@ -5,7 +5,7 @@ use Rattle.range_rows.proofs.Ranges.{behind_next, putting_start, putting_here, p
 use Rattle.range_rows.proofs.put_ranges.Goals as goal
 
 pub loop-stage-init : goal.loop-stage-init
-loop-stage-init c = putting_start _ _ _ _ _ c.requires.first_value c.requires.writable
+loop-stage-init c = putting_start _ _ _ _ _ _ c.args.set.now.starts c.args.set.now.counted c.requires.words_room c.requires.ids_room
 
 pub put_range-end-requires : goal.put_range-end-requires
 put_range-end-requires c = putting_here c.loop-stage.invariant
@@ -18,7 +18,7 @@ returns-in_default c =
     }
 
 pub unreachable-requires : goal.unreachable-requires
-unreachable-requires c = behind_next (rw c.in-Some.is at c.put_range-end.ensures.behind) (goes_stage c.in-Some.stage) c.in_default-next.ensures
+unreachable-requires c = behind_next (rw c.in-Some.is at c.put_range-end.ensures.behind) (goes_stage c.in-Some.stage) c.in_default-next.ensures.answer
 
 pub overflow_add-written : goal.overflow_add-written
 overflow_add-written c = omega (arith, putting_words c.loop-stage.invariant c.put_range-end.ensures.put)
@@ -29,4 +29,4 @@ overflow_add-written-in-loop-stage c = omega (arith, putting_ids c.loop-stage.in
 pub loop-stage-preserved : goal.loop-stage-preserved
 loop-stage-preserved c =
     putting_more c.loop-stage.invariant c.put_range-end.ensures.put c.put_range-end.ensures.ids (rw c.in-Some.is at c.put_range-end.ensures.behind) (goes_stage c.in-Some.stage)
-    c.in-Some-next.ensures
+    c.in-Some-next.ensures.answer

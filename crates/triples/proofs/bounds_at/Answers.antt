@@ -1,3 +1,4 @@
+-- With this law named on the function, the check does not find this.
 use Rattle.triples.proofs.TripleBytes.{bounds_read}
 use Rattle.triples.proofs.bounds_at.Goals as goal
 

@@ -1,3 +1,4 @@
+-- With this law named on the function, rt check --margin does not find this: its search gives up at a limit.
 use Rattle.std.proofs.Common.{rules}
 use Rattle.triples.proofs.TripleBytes.{triple_puts}
 use Rattle.triples.proofs.put_triple.Goals as goal

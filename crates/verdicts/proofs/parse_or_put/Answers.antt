@@ -1,3 +1,4 @@
+-- With ranges named on the function, the check finds none of these; each gives the search clauses besides.
 use borrow.Author.Rules.{rules}
 use Rattle.verdicts.proofs.Ranges.{ranges}
 use Rattle.verdicts.proofs.parse_or_put.Goals as goal

@@ -1,3 +1,4 @@
+-- The check finds none of these without an answer; each gives the search a clause of its arm besides the laws.
 use Rattle.verdicts.proofs.Answering.{answers}
 use borrow.Author.Rules.{rules}
 use Rattle.verdicts.proofs.put_answer.Goals as goal

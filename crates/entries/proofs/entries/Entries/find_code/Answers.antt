@@ -1,3 +1,4 @@
+-- The library's law is given two predicates here, which the name of a law on the function cannot say.
 use Rattle.std.proofs.Common.{◌≡◌, rules, true, false, eqb}
 use Rattle.std.proofs.lemmas.Iterator.{first_from_Range}
 use Rattle.shelf_rules.specs.Shelf.{code_in}

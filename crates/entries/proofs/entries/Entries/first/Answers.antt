@@ -1,3 +1,4 @@
+-- Each answer takes the test's p and its facts as arguments, and hands them to the loop's invariant.
 use Rattle.std.proofs.Common.{◌≡◌, ◌∙◌, sym, arith, false}
 use borrow.Author.Count.{below_more}
 use Rattle.entries.proofs.entries.Entries.first.Goals as goal

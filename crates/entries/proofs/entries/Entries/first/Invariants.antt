@@ -1,3 +1,4 @@
+-- The loop's invariant: no p before k passes.
 use Rattle.std.proofs.Common.{◌≡◌, ◌<◌, ℕ, Bool, false}
 use Rattle.entries.proofs.entries.Entries.first.Given as goal
 

@@ -1,12 +1,10 @@
-use Rattle.std.proofs.Common.{rules}
-use Rattle.entries.proofs.Counting.{countings}
+-- The check does not find the second with of_shelf named on the function; the first is there for it, and the others the check finds by the laws named.
+use Rattle.std.proofs.Common.{rules, refl}
+use Rattle.entries.proofs.Counting.{countings, of_shelf}
 use Rattle.entries.proofs.entries.Entries.of.Goals as goal
 
-pub returns-then-shelf-ne-SHELF_BYTES : goal.returns-then-shelf-ne-SHELF_BYTES
-returns-then-shelf-ne-SHELF_BYTES c = search (countings, rules)
+pub returns-clause-answer : goal.returns-clause-answer
+returns-clause-answer c = search (countings, rules)
 
-pub returns-then-count-gt-CAPACITY : goal.returns-then-count-gt-CAPACITY
-returns-then-count-gt-CAPACITY c = search (countings, rules)
-
-pub returns : goal.returns
-returns c = search (countings, rules)
+pub returns-clause-shelf : goal.returns-clause-shelf
+returns-clause-shelf c = of_shelf c.args.shelf.now _ (returns-clause-answer c) _ refl
