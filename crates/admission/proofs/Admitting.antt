@@ -22,7 +22,7 @@ use Rattle.rangeset.proofs.Outcomes.{counted-reading, refused-reading}
 use Rattle.refusals.specs.declared.Refusal.{Refusal}
 use Rattle.refusals.specs.Views.{answer_of}
 use Rattle.version.specs.Views.{version_is, version_in, version_text_of}
-use Rattle.version.specs.declared.Version.{Version}
+use Rattle.version.specs.declared.version.Version.{Version}
 use Rattle.version.proofs.VersionLaws.{version_held, version_refused}
 use Rattle.admission.proofs.Verdicts.{Verdict, between, within, meets_piece, verdict, after, ended, verdict_push, verdict_open, verdict_text}
 

@@ -1,80 +1,101 @@
 -- A version against the comparators of a step.
 -- Assumes nothing.
-use Rattle.std.proofs.Common.{ℕ, ◌≡◌, Bool, true, false, ◌&&◌, List, [], ◌∷◌, refl, sym, ap, ◌∙◌, Some, None}
+use Rattle.std.proofs.Common.{ℕ, ◌≡◌, ◌≤◌, Bool, true, false, ◌&&◌, ◌||◌, eqb, ltb, length, get_or, arith, List, [], ◌∷◌, refl, sym, ◌∙◌, Some}
 use Rattle.std.proofs.Math.Bool.{and-true}
+use Rattle.std.proofs.lemmas.Bool.Decides.{nat_tests}
+use borrow.Author.Tests.{le-leb}
 use Rattle.std.specs.declared.cmp.Ordering.{Ordering}
 use Rattle.std.specs.declared.cmp.Ordering.TheVariants.{Less, Equal, Greater}
 use Rattle.rules.specs.Lists.{each}
+use Rattle.rules.specs.Bytes.{is_digit, is_nonzero, is_letter, is_word}
 use Rattle.rules.specs.Syntax.{Identifier}
-use Rattle.rules.specs.Parse.{Result, fail, ok, read_identifier, found_in, list_of}
-use Rattle.rules.specs.Version.{version, read_version_identifier, version_identifiers_in}
+use Rattle.rules.specs.Parse.{Result, fail, ok, ◌then◌, choose, literal, one_of, run, read_number, read_identifier, found_in}
+use Rattle.rules.specs.Version.{version, version_identifiers_in}
 use Rattle.rules.specs.Precedence as P
 use Rattle.rules.specs.Precedence.{◌or_else◌, lexicographic, compare_numbers, compare_identifiers, compare_prereleases, precedence}
 use Rattle.rules.specs.Admission.{holds, meets}
 use Rattle.rules.proofs.All.{each_append}
 use Rattle.rules.proofs.Left.{identifier-behind}
 use Rattle.rows.proofs.Found.{found-series, series_none}
-use Rattle.lexer.specs.Views.{rest_of, read_series}
 use Rattle.partial.specs.Views.{op_of}
 use Rattle.partial.specs.declared.Comparator.{Comparator}
 use Rattle.walk.specs.Views.{Stepped}
 use Rattle.passes.specs.Views.{listed, kept_gives, raised_gives, step_gives}
-use Rattle.precedence.specs.Views.{order_of, behind_dot}
-use Rattle.precedence.proofs.Comparing.{version-series, series-behind}
-use Rattle.version.specs.Takes.{identifier-takes}
+use Rattle.precedence.specs.Views.{order_of}
+use Rattle.precedence.proofs.Comparing.{series-behind}
 use Rattle.version.specs.Views.{version_is}
-use Rattle.version.specs.declared.Version.{Version}
+use Rattle.version.specs.declared.version.Version.{Version}
+
+-- ---- the first byte of a range text
+
+-- an identifier is read
+abbrev reads : Result Identifier → Bool
+reads fail = false
+reads (ok i r) = true
+
+found-reads : (s : List ℕ) → ltb 0 (length (found_in s)) ≡ reads (read_identifier s)
+found-reads s = go (read_identifier s) refl
+  where
+    go : (g : Result Identifier) → read_identifier s ≡ g → ltb 0 (length (found_in s)) ≡ reads g
+    go fail q = rw (found-series s, series_none read_identifier s q)
+    go (ok i r) q = rw (found-series s, series-behind read_identifier identifier-behind s i r q) (le-leb 1 _ (omega arith))
+
+digit-is : (c : ℕ) → is_digit c ≡ (eqb c 48 || is_nonzero c)
+unfolding is_digit is_nonzero
+digit-is c = grind (arith, nat_tests)
+
+-- a word begins an identifier
+reads-first : (c : ℕ) (s : List ℕ) → reads (read_identifier (c ∷ s)) ≡ is_word c
+unfolding read_identifier read_number choose literal one_of run ◌then◌
+reads-first c s = rw (digit-is c) (go (eqb c 48) (is_nonzero c) (is_letter c) refl refl refl)
+  where
+    go : (z n l : Bool) → eqb c 48 ≡ z → is_nonzero c ≡ n → is_letter c ≡ l → reads (read_identifier (c ∷ s)) ≡ (l || (z || n))
+    go true n true x y w = rw x
+    go true n false x y w = rw x
+    go false true true x y w = rw (x, y)
+    go false true false x y w = rw (x, y)
+    go false false true x y w = rw (x, y, w)
+    go false false false x y w = rw (x, y, w)
+
+pub first_byte : (s : List ℕ) → 1 ≤ length s → (b : Bool) → b ≡ is_word (get_or s 0 0) → b ≡ ltb 0 (length (found_in s))
+first_byte [] h b e = absurd (omega arith)
+first_byte (c ∷ s) h b e = e ∙ sym (found-reads (c ∷ s) ∙ reads-first c s)
+
+pub first_none : (s : List ℕ) → length s ≡ 0 → false ≡ ltb 0 (length (found_in s))
+unfolding read_identifier read_number choose literal one_of ◌then◌
+first_none [] z = sym (found-reads [])
+first_none (c ∷ s) z = absurd (omega arith)
+
+pub ruleset firsts = (first_byte, first_none)
 
 -- ---- compare_prereleases
 
-is_fail : {A : Type 0} (g : Result A) → None ≡ rest_of g → g ≡ fail
-is_fail fail e = refl
-is_fail (ok a r) e = cc
-
-is_ok : {A : Type 0} (g : Result A) (t : List ℕ) → Some t ≡ rest_of g → (a : A) × (g ≡ ok a t)
-is_ok fail t e = cc
-is_ok (ok a r) t e = let i : r ≡ t = cc in (a, ap (ok a) i)
-
-module _ (v s : List ℕ) where
-  version-none : None ≡ rest_of (read_version_identifier v) → version_identifiers_in v ≡ []
-  version-none e = rw (version-series v, series_none read_version_identifier v (is_fail _ e))
-
-  version-some : (t : List ℕ) → Some t ≡ rest_of (read_version_identifier v) → (i : Identifier) × (is : List Identifier) × (version_identifiers_in v ≡ i ∷ is)
-  version-some t e =
-      let (i, q) = is_ok _ t e in
-      (i, list_of (read_series read_version_identifier (behind_dot t)), rw (version-series v) (series-behind read_version_identifier identifier-takes v i t q))
-
-  found-none : None ≡ rest_of (read_identifier s) → found_in s ≡ []
-  found-none e = rw (found-series s, series_none read_identifier s (is_fail _ e))
-
-  found-some : (t : List ℕ) → Some t ≡ rest_of (read_identifier s) → (i : Identifier) × (is : List Identifier) × (found_in s ≡ i ∷ is)
-  found-some t e =
-      let (i, q) = is_ok _ t e in
-      (i, list_of (read_series read_identifier (behind_dot t)), rw (found-series s) (series-behind read_identifier identifier-behind s i t q))
-
-  pub prereleases_none : None ≡ rest_of (read_version_identifier v) → (t : List ℕ) → Some t ≡ rest_of (read_identifier s)
-      → P.greater ≡ compare_prereleases (version_identifiers_in v) (found_in s)
+-- by how many identifiers the version has, and whether the range text begins with one
+module _ (n : ℕ) (b : Bool) where
+  pub prereleases_none : (is js : List Identifier) → n ≡ length is → b ≡ ltb 0 (length js) → n ≡ 0 → b ≡ true → P.greater ≡ compare_prereleases is js
   unfolding compare_prereleases
-  prereleases_none e t k = let (j, js, q) = found-some t k in rw (version-none e, q)
+  prereleases_none [] [] k e z q = cc
+  prereleases_none [] (j ∷ js) k e z q = refl
+  prereleases_none (i ∷ is) js k e z q = absurd (omega arith)
 
-  pub prereleases_some : (t : List ℕ) → Some t ≡ rest_of (read_version_identifier v) → None ≡ rest_of (read_identifier s)
-      → P.less ≡ compare_prereleases (version_identifiers_in v) (found_in s)
+  pub prereleases_some : (is js : List Identifier) → n ≡ length is → b ≡ ltb 0 (length js) → (n ≡ 0 → ⊥) → (b ≡ true → ⊥) → P.less ≡ compare_prereleases is js
   unfolding compare_prereleases
-  prereleases_some t e k = let (i, is, q) = version-some t e in rw (q, found-none k)
+  prereleases_some [] js k e z q = absurd (z k)
+  prereleases_some (i ∷ is) [] k e z q = refl
+  prereleases_some (i ∷ is) (j ∷ js) k e z q = absurd (q (e ∙ le-leb 1 _ (omega arith)))
 
-  module _ (r : Ordering) (c : order_of r ≡ lexicographic compare_identifiers (version_identifiers_in v) (found_in s)) where
-    pub prereleases_neither : None ≡ rest_of (read_version_identifier v) → None ≡ rest_of (read_identifier s)
-        → order_of r ≡ compare_prereleases (version_identifiers_in v) (found_in s)
-    unfolding compare_prereleases lexicographic
-    prereleases_neither e k = c ∙ rw (version-none e, found-none k)
+  pub prereleases_neither : (is js : List Identifier) → n ≡ length is → b ≡ ltb 0 (length js) → n ≡ 0 → (b ≡ true → ⊥) → P.equal ≡ compare_prereleases is js
+  unfolding compare_prereleases
+  prereleases_neither [] [] k e z q = refl
+  prereleases_neither [] (j ∷ js) k e z q = absurd (q (e ∙ le-leb 1 _ (omega arith)))
+  prereleases_neither (i ∷ is) js k e z q = absurd (omega arith)
 
-    pub prereleases_both : (t : List ℕ) → Some t ≡ rest_of (read_version_identifier v) → (u : List ℕ) → Some u ≡ rest_of (read_identifier s)
-        → order_of r ≡ compare_prereleases (version_identifiers_in v) (found_in s)
-    unfolding compare_prereleases
-    prereleases_both t e u k =
-        let (i, is, q) = version-some t e in
-        let (j, js, w) = found-some u k in
-        c ∙ rw (q, w)
+  pub prereleases_both : (is js : List Identifier) → n ≡ length is → b ≡ ltb 0 (length js) → (n ≡ 0 → ⊥) → b ≡ true
+      → (o : Ordering) → order_of o ≡ lexicographic compare_identifiers is js → order_of o ≡ compare_prereleases is js
+  unfolding compare_prereleases
+  prereleases_both [] js k e z q o c = absurd (z k)
+  prereleases_both (i ∷ is) [] k e z q o c = cc
+  prereleases_both (i ∷ is) (j ∷ js) k e z q o c = c
 
 pub ruleset prereleases = (prereleases_none, prereleases_some, prereleases_neither, prereleases_both)
 

@@ -1,7 +1,7 @@
 // Admission: whether a range text admits a version (01, "Admission"). A range set is passed over by the walk's steps; the version text is read once.
 #![tactic(auto)]
 
-ghost use Rattle.std.specs.Prelude.{◌≡◌};
+ghost use Rattle.std.specs.Prelude.{◌≡◌, ltb, length};
 ghost use Rattle.rules.specs.Lists.{each};
 ghost use Rattle.rules.specs.Parse.{found_in};
 ghost use Rattle.rules.specs.Version.{version, version_identifiers_in};
@@ -15,7 +15,7 @@ ghost use Rattle.precedence.specs.Views.{order_of};
 ghost use Rattle.version.specs.Views.{version_is};
 ghost use Rattle.refusals.specs.Views.{answer_of};
 
-use lexer::{Reader, skip_identifier};
+use lexer::{Class, Word};
 use partial::Comparator;
 use passes::{as_read, ends_range, raised};
 use precedence::{compare_identifiers, compare_triples, holds};
@@ -23,37 +23,49 @@ use range::Compat;
 use rangeset::RangeSet;
 use refusals::Refusal;
 use std::cmp::Ordering;
-use version::{Prerelease, Version, read_version};
+use version::{Version, read_version};
 use walk::Step;
 
 // ---- a version against comparators
 
-// The identifiers that the version text v begins with, against those that the range text s begins with: having none stands above having some,
-// which no derived order of lists says.
-#[tactic(auto, using(crate::proofs::Meeting::prereleases))]
-fn compare_prereleases(v: &[u8], s: &[u8]) -> Ordering
-    ensures { order_of result ≡ compare_prereleases (version_identifiers_in v.now) (found_in s.now) }
+// Whether the range text s begins with an identifier: the first byte tells, since a letter begins one, and a digit a number.
+#[tactic(auto, using(crate::proofs::Meeting::firsts))]
+fn has_identifiers(s: &[u8]) -> bool
+    ensures { result ≡ ltb 0 (length (found_in s.now)) }
 {
-    match (Prerelease::skip(v), skip_identifier(s)) {
-        (None, Some(_)) => Ordering::Greater,
-        (Some(_), None) => Ordering::Less,
-        _ => compare_identifiers(v, s),
+    matches!(s, [b, ..] if Word::has(*b))
+}
+
+// The identifiers of the version against those that the range text s begins with: having none stands above having some, which no derived order of
+// lists says. Where one side has none, no identifier is read: a range may ask this of a long one at each comparator.
+#[tactic(auto, using(crate::proofs::Meeting::prereleases))]
+#[inline(always)]
+fn compare_prereleases(v: &Version<'_>, s: &[u8]) -> Ordering
+    ensures { order_of result ≡ compare_prereleases (version_identifiers_in v.now.prerelease.now) (found_in s.now) }
+{
+    match (v.count, has_identifiers(s)) {
+        (0, true) => Ordering::Greater,
+        (0, _) => Ordering::Equal,
+        (_, true) => compare_identifiers(v.prerelease, s),
+        _ => Ordering::Less,
     }
 }
 
 #[tactic(auto, using(crate::proofs::Meeting::orders))]
+#[inline(always)]
 fn precedence(v: &Version<'_>, c: &Comparator<'_>) -> Ordering
     ensures { order_of result ≡ precedence (version_is v.now) (version c.now.major c.now.minor c.now.patch (found_in c.now.identifiers.now)) }
 {
     let numbers = (c.major, c.minor, c.patch);
     match compare_triples((v.major, v.minor, v.patch), numbers) {
-        Ordering::Equal => compare_prereleases(v.prerelease, c.identifiers),
+        Ordering::Equal => compare_prereleases(v, c.identifiers),
         order => order,
     }
 }
 
 // Whether the version meets the comparator, if there is one.
 #[tactic(auto, using(crate::proofs::Meeting::meetings))]
+#[inline(always)]
 fn meets(v: &Version<'_>, comparator: Option<Comparator<'_>>) -> bool
     ensures { result ≡ each (meets (version_is v.now)) (listed comparator.entry) }
 {
@@ -108,6 +120,7 @@ pub fn admits_held(s: &[u8], compat: Compat, v: &Version<'_>) -> bool
 
 // The answer for a range text to which none of 1 to 4 applies. Who asks for many versions decides that once.
 #[tactic(auto, using(crate::proofs::Admitting::versions))]
+#[inline(always)]
 pub fn admit_version(set: &RangeSet<'_>, t: &[u8]) -> Result<bool, Refusal>
     ensures { answer_of result ≡ admission_call (compat_of set.now.compat) set.now.text.now t.now }
 {

@@ -2,7 +2,12 @@
 // a line, and writes each line with its answer; or one line, where the range is refused.
 #![tactic(auto)]
 
+ghost use Rattle.std.specs.Prelude.{◌≡◌, ◌+◌, ◌-◌, ◌≤◌, ◌++◌, [], OnOk, length, min, take};
+ghost use Rattle.rules.specs.Admits.{verdict_room};
+ghost use Rattle.arrayvec.specs.ArrayVec.{array_vec_len};
+
 use arrayvec::ArrayVec;
+use memchr::memchr;
 use range::Compat;
 use rangeset::RangeSet;
 use std::io;
@@ -13,54 +18,95 @@ use verdicts::{parse_or_put, put_verdict};
 
 // ---- the lines
 
+// How many bytes of a line are held: a longer line has one answer, whatever follows.
+const LINE: usize = 65536;
+
+// How many bytes of answers are held before they are written.
+const BLOCK: usize = 131072;
+
 // The answers of a range to the lines of an input.
 #[derive(Drop)]
 struct Answers<'a, W> {
     set: RangeSet<'a>,
     // The first bytes of the line that is not ended. It takes as many bytes as it has room for, and is full where the line is over 65,535 bytes.
-    line: ArrayVec<u8, 65536>,
+    line: ArrayVec<u8, LINE>,
     // The last line that ended, with its answer: `put_verdict` puts it at the start of memory that it is lent, and answers its length.
     answered: [u8; verdicts::ROOM],
     // Lines with their answers, which are written when there are many.
-    block: ArrayVec<u8, 131072>,
+    block: ArrayVec<u8, BLOCK>,
     out: W,
 }
 
 impl<W: Write> Answers<'_, W> {
-    fn flush(&mut self) -> io::Result<()> {
+    // Writes the block. The line that is held stays.
+    fn flush(&mut self) -> io::Result<()>
+        ensures cleared { OnOk result (self.new.block.items ≡ []) }
+        ensures line { self.new.line ≡ self.old.line }
+        ensures answered { self.new.answered ≡ self.old.answered }
+    {
         self.out.write_all(self.block.as_slice())?;
         self.block.clear();
         Ok(())
     }
 
-    // Answers the line that is held. An empty block has room for every answer.
-    fn answer(&mut self) -> io::Result<()> {
-        let len = put_verdict(&self.set, self.line.as_slice(), &mut self.answered);
-        self.line.clear();
+    // Writes the block, unless so many bytes have room in it: an empty one has room for every answer.
+    fn with_room(&mut self, len: usize) -> io::Result<()>
+        requires { len ≤ verdict_room }
+        ensures room { OnOk result (array_vec_len self.new.block + len ≤ BLOCK) }
+        ensures line { self.new.line ≡ self.old.line }
+        ensures answered { self.new.answered ≡ self.old.answered }
+    {
         if self.block.remaining_capacity() < len {
             self.flush()?;
         }
-        self.block.write_all(&self.answered[..len])
+        Ok(())
     }
 
-    // Answers the lines that end in the chunk.
+    // Puts the first bytes of `answered` behind the block's bytes.
+    fn put(&mut self, len: usize)
+        requires answered { len ≤ verdict_room }
+        requires room { array_vec_len self.old.block + len ≤ BLOCK }
+        ensures block { self.new.block.items ≡ self.old.block.items ++ take len self.old.answered }
+        ensures line { self.new.line ≡ self.old.line }
+    {
+        let _fits = self.block.try_extend_from_slice(&self.answered[..len]);
+    }
+
+    // Answers the line that is held, and holds none.
+    fn answer(&mut self) -> io::Result<()>
+        ensures { self.new.line.items ≡ [] }
+    {
+        let len = put_verdict(&self.set, self.line.as_slice(), &mut self.answered);
+        self.line.clear();
+        self.with_room(len)?;
+        self.put(len);
+        Ok(())
+    }
+
+    // Holds as many of these bytes as have room behind those of the line.
+    fn hold(&mut self, part: &[u8])
+        ensures line { self.new.line.items ≡ self.old.line.items ++ take (min (LINE - array_vec_len self.old.line) (length part.now)) part.now }
+        ensures block { self.new.block ≡ self.old.block }
+    {
+        let _held = self.line.write(part);
+    }
+
+    // Answers the lines that end in the chunk, and holds what follows them.
     fn answer_chunk(&mut self, chunk: &[u8]) -> io::Result<()> {
-        for part in chunk.split_inclusive(|b| *b == b'\n') {
-            match part.strip_suffix(b"\n") {
-                Some(end) => {
-                    self.line.write(end)?;
-                    self.answer()?;
-                }
-                None => {
-                    self.line.write(part)?;
-                }
-            }
+        let mut rest = chunk;
+        while let Some(end) = memchr(b'\n', rest) {
+            self.hold(&rest[..end]);
+            self.answer()?;
+            rest = &rest[end + 1..];
         }
+        self.hold(rest);
         self.flush()
     }
 
     // Answers the last line, which needs no 0A.
-    fn answer_last(&mut self) -> io::Result<()> {
+    fn answer_last(&mut self) -> io::Result<()>
+        ensures { self.new.line.items ≡ [] }
+    {
         if !self.line.is_empty() {
             self.answer()?;
         }

@@ -13,7 +13,7 @@ use Rattle.range.specs.declared.Compat.{Compat}
 use Rattle.range.specs.declared.UnknownMode.{UnknownMode}
 use Rattle.rules.specs.Version as R
 use Rattle.version.specs.Views.{version_is}
-use Rattle.version.specs.declared.Version.{Version}
+use Rattle.version.specs.declared.version.Version.{Version}
 use Rattle.shelf_rules.specs.Shelf.{count_in, shelf_in, entry_fits, first_fit_call}
 use Rattle.entries.specs.Views.{entries_of, OfShelf, row_at, IsFirst}
 use Rattle.entries.specs.declared.entries.Entries.{Entries}

@@ -1,11 +1,11 @@
 -- The value of digits, where it may be too large: the digits that are to come, behind those whose value is known.
 -- Assumes nothing.
-use Rattle.std.proofs.Common.{ℕ, suc, ◌≡◌, ◌+◌, ◌-◌, ◌*◌, Bool, true, false, List, [], ◌∷◌, take, refl, arith, Option, Some}
+use Rattle.std.proofs.Common.{ℕ, suc, ◌≡◌, ◌+◌, ◌-◌, ◌*◌, ◌≤◌, ◌∙◌, Bool, true, false, List, [], ◌∷◌, take, refl, arith, Option, Some}
 use native.Mathlib.Decide.{dec_le}
 use borrow.Author.Tests.{lt-leb, le-leb}
-use Rattle.rules.specs.Bytes.{is_digit, value, value_from, largest, pick}
+use Rattle.rules.specs.Bytes.{is_digit, value_from, largest, pick}
 use Rattle.rules.specs.Parse.{count}
-use Rattle.lexer.specs.Views.{fitting, pushed, digits_value}
+use Rattle.lexer.specs.Views.{fitting, pushed, digits_after}
 
 abbrev pub digits_behind : Option ℕ → List ℕ → Option ℕ
 digits_behind o [] = o
@@ -16,7 +16,7 @@ pushed_fitting : (v c : ℕ) → pushed (fitting v) c ≡ fitting (v * 10 + (c -
 pushed_fitting v c =
     elim (dec_le v largest) [ yes h ↦ rw (le-leb v largest h) | no h ↦ rw (lt-leb v largest (omega arith), lt-leb (v * 10 + (c - 48)) largest (omega arith)) ]
 
-digits_from : (v : ℕ) (s : List ℕ) → fitting (value_from v (take (count is_digit s) s)) ≡ digits_behind (fitting v) s
+digits_from : (v : ℕ) (s : List ℕ) → digits_after v s ≡ digits_behind (fitting v) s
 unfolding value_from count
 digits_from v [] = refl
 digits_from v (c ∷ s) = go (is_digit c) (digits_from (v * 10 + (c - 48)) s)
@@ -26,8 +26,7 @@ digits_from v (c ∷ s) = go (is_digit c) (digits_from (v * 10 + (c - 48)) s)
     go true h = rw (pushed_fitting v c) h
     go false h = refl
 
-pub digits_none : (s : List ℕ) → digits_value s ≡ digits_behind (Some 0) s
-unfolding value
-digits_none s = digits_from 0 s
+pub digits_first : (v : ℕ) (s : List ℕ) → v ≤ largest → digits_after v s ≡ digits_behind (Some v) s
+digits_first v s h = digits_from v s ∙ rw (le-leb v largest h) refl
 
-pub ruleset digits = (digits_none)
+pub ruleset digits = (digits_first)

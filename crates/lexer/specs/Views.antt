@@ -2,7 +2,7 @@
 -- Assumes nothing.
 use Rattle.std.specs.Prelude.{ℕ, ◌+◌, ◌*◌, ◌-◌, List, [], ◌∷◌, Bool, leb, length, take, drop, Option, Some, None}
 use Rattle.std.specs.Borrow.{Bor}
-use Rattle.rules.specs.Bytes.{is_digit, is_sign, value, largest, pick}
+use Rattle.rules.specs.Bytes.{is_digit, is_sign, value, value_from, largest, pick}
 use Rattle.rules.specs.Syntax as S
 use Rattle.rules.specs.Parse.{Result, fail, ok, ◌then◌, all, one_of, count, read_identifier, list_of, found_in}
 use Rattle.lexer.specs.declared.Number.{Number}
@@ -39,9 +39,9 @@ abbrev pub number_in : Option Number → Result (Option ℕ)
 number_in None = fail
 number_in (Some n) = ok n.value n.left.now
 
--- the value of the digits that s begins with
-abbrev pub digits_value : List ℕ → Option ℕ
-digits_value s = fitting (value (take (count is_digit s) s))
+-- the value of the digits that s begins with, behind digits of the value v
+abbrev pub digits_after : ℕ → List ℕ → Option ℕ
+digits_after v s = fitting (value_from v (take (count is_digit s) s))
 
 -- one digit more
 abbrev pub pushed : Option ℕ → ℕ → Option ℕ

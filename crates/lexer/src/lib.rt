@@ -1,5 +1,8 @@
 // Bytes, spaces, numbers and identifiers: what src/generated.rs of the crate reads. Each reader is given the part of the text from its
 // place on, and hands back what is left behind what it read, or nothing where it read nothing.
+//
+// A hint on inlining, here and in the crates above, stands on a function with several callers that every short reading, normal text or admission goes
+// through: out of line it would hand what it read on through memory (docs/SPEED.md).
 #![tactic(auto)]
 
 ghost use Rattle.std.specs.Prelude.{◌≡◌, ◌+◌, ◌<◌, ◌≤◌, ℕ, Bool, List, true, length, drop, IfSome};
@@ -8,7 +11,7 @@ ghost use Rattle.rules.specs.Syntax.{Identifier};
 ghost use Rattle.rules.specs.Parse.{Result, count, skip, literal, read_number, read_identifier, read_qualifier, list_of};
 ghost use Rattle.rules.specs.Version.{read_after_dot};
 ghost use Rattle.rules.proofs.Left.{identifier-behind};
-ghost use Rattle.lexer.specs.Views.{rest, rest_in, rest_of, number_in, number_of, pushed, digits_value, before, identifier_in, Takes, read_series, series_of, series_in, read_signed, qualifier_is, qualifier_in, begun};
+ghost use Rattle.lexer.specs.Views.{rest, rest_in, rest_of, number_in, number_of, pushed, digits_after, before, identifier_in, Takes, read_series, series_of, series_in, read_signed, qualifier_is, qualifier_in, begun};
 
 // ---- classes of bytes
 
@@ -61,7 +64,7 @@ impl Class for Digit {
     }
 }
 
-// A letter, a digit or `-`.
+// A letter, a digit or `-`; most are small letters.
 pub struct Word;
 
 impl Class for Word {
@@ -69,7 +72,7 @@ impl Class for Word {
 
     #[tactic(auto, unfolding(rules::specs::Bytes::is_digit, rules::specs::Bytes::is_letter))]
     fn has(b: u8) -> bool {
-        matches!(b, b'a'..=b'z' | b'A'..=b'Z' | b'-' | b'0'..=b'9')
+        matches!(b, b'a'..=b'z') || matches!(b, b'A'..=b'Z' | b'-' | b'0'..=b'9')
     }
 }
 
@@ -108,6 +111,7 @@ pub fn skip_run<C: Class>(s: &[u8]) -> &[u8]
 
 // By a loop of its own, since spaces need no count of 16 bits.
 #[tactic(auto, unfolding(rules::specs::Parse::count))]
+#[inline(always)]
 pub fn skip_spaces(s: &[u8]) -> &[u8]
     ensures { result.now ≡ skip s.now }
 {
@@ -130,22 +134,28 @@ pub struct Number<'a> {
     pub left: &'a [u8],
 }
 
-// A digit more.
+// A digit more. Behind a value below a tenth of the largest number every digit fits.
 #[tactic(auto, unfolding(rules::specs::Bytes::is_digit))]
 fn push(value: Option<u64>, digit: u8) -> Option<u64>
     requires { is_digit digit ≡ true }
     ensures { result ≡ pushed value digit }
 {
+    if let Some(v) = value
+        && v < u64::MAX / 10
+    {
+        return Some(v * 10 + u64::from(digit - b'0'));
+    }
     value?.checked_mul(10)?.checked_add(u64::from(digit - b'0'))
 }
 
-// The digits that s begins with. The library's `parse` reads a whole `&str`, and would not say where the digits end.
+// The digits that s begins with, behind a digit of the value start. The library's `parse` reads a whole `&str`, and would not say where the digits end.
 #[tactic(auto, using(crate::proofs::Numbers::digits), unfolding(rules::specs::Parse::count))]
-fn read_digits(s: &[u8]) -> Number<'_>
-    ensures value { result.value ≡ digits_value s.now }
+#[inline(always)]
+fn read_digits(s: &[u8], start: u64) -> Number<'_>
+    ensures value { result.value ≡ digits_after start s.now }
     ensures left { result.left.now ≡ rest is_digit s.now }
 {
-    let mut value = Some(0);
+    let mut value = Some(start);
     let mut left = s;
     while let [b, behind @ ..] = left {
         if !Digit::has(*b) {
@@ -157,7 +167,9 @@ fn read_digits(s: &[u8]) -> Number<'_>
     Number { value, left }
 }
 
+// The first digit is read apart, as most numbers have no other.
 #[tactic(auto, unfolding(crate::proofs::Opened::readers))]
+#[inline(always)]
 pub fn read_number(s: &[u8]) -> Option<Number<'_>>
     ensures { number_in result ≡ number_of (read_number s.now) }
 {
@@ -166,7 +178,7 @@ pub fn read_number(s: &[u8]) -> Option<Number<'_>>
             value: Some(0),
             left,
         }),
-        [b, ..] if Digit::has(*b) => Some(read_digits(s)),
+        [b, left @ ..] if Digit::has(*b) => Some(read_digits(left, u64::from(*b - b'0'))),
         _ => None,
     }
 }
@@ -192,6 +204,7 @@ pub fn skip_dot(s: &[u8]) -> Option<&[u8]>
 
 // A dot and a number.
 #[tactic(auto, unfolding(crate::proofs::Opened::readers))]
+#[inline(always)]
 pub fn read_dot_number(s: &[u8]) -> Option<Number<'_>>
     ensures { number_in result ≡ number_of (read_after_dot read_number s.now) }
 {
@@ -303,8 +316,9 @@ pub fn skip_after_dot<R: Reader>(s: &[u8]) -> Option<&[u8]>
 }
 
 // Identifiers with dots between. The count and what is left are bounded together (`within`, here and in the two below), for the sums over a text; the
-// struct has not the text that bounds them.
+// struct has not the text that bounds them. Out of line, since most texts have none.
 #[tactic(auto, using(crate::proofs::Series::series))]
+#[inline(never)]
 pub fn skip_identifiers<R: Reader>(s: &[u8]) -> Option<Identifiers<'_>>
     ensures answer { series_in R.reads result ≡ series_of (read_series R.reads s.now) }
     ensures text { IfSome result (λ found. found.text ≡ s.entry) }
@@ -326,6 +340,7 @@ pub fn skip_identifiers<R: Reader>(s: &[u8]) -> Option<Identifiers<'_>>
 
 // `-` or `+`, then identifiers with dots between.
 #[tactic(auto, using(crate::proofs::Series::signed))]
+#[inline(always)]
 fn skip_signed(s: &[u8]) -> Option<Identifiers<'_>>
     ensures answer { qualifier_in result ≡ series_of (read_signed s.now) }
     ensures text { IfSome result (λ found. found.text.now ≡ drop 1 s.now) }
@@ -339,6 +354,7 @@ fn skip_signed(s: &[u8]) -> Option<Identifiers<'_>>
 
 // A sign without identifiers is left: as in the rules, the qualifier is read then too, and has none.
 #[tactic(auto, using(crate::proofs::Series::qualifiers))]
+#[inline(always)]
 pub fn skip_qualifier(s: &[u8]) -> Identifiers<'_>
     ensures answer { qualifier_is result ≡ series_of (read_qualifier s.now) }
     ensures text { result.text.now ≡ begun (list_of (read_qualifier s.now)) (drop 1 s.now) }

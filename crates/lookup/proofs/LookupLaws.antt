@@ -7,7 +7,7 @@ use Rattle.rules.specs.Admission.{admits, version_of}
 use Rattle.refusals.specs.Views.{number_of}
 use Rattle.refusals.specs.declared.Refusal.{Refusal}
 use Rattle.version.specs.Views.{version_is}
-use Rattle.version.specs.declared.Version.{Version}
+use Rattle.version.specs.declared.version.Version.{Version}
 use Rattle.shelf_rules.specs.Triples.{triple, encloses}
 use Rattle.shelf_rules.specs.Shelf.{bounds_in, count_in, shelf_in, entry_fits}
 use Rattle.shelf_rules.specs.Lookup.{kept_fits, lookup_call}

@@ -70,6 +70,7 @@ impl Gap {
 
 // The identifiers of a comparator, with dots between: numbers have no leading zeros in the text, so they are spelled by its bytes.
 #[tactic(auto, using(crate::proofs::Identified::identified))]
+#[inline(always)]
 fn identifiers<'a>(c: &Comparator<'a>) -> Option<&'a [u8]>
     ensures { signed result ≡ spell_identifiers (found_in c.now.identifiers.now) }
 {
@@ -77,6 +78,7 @@ fn identifiers<'a>(c: &Comparator<'a>) -> Option<&'a [u8]>
     Some(before(found.text, found.left))
 }
 
+#[inline(always)]
 fn identifiers_len(c: &Comparator<'_>) -> usize
     requires { length (spell_identifiers (found_in c.now.identifiers.now)) < 18446744073709551616 }
     ensures { result ≡ length (spell_identifiers (found_in c.now.identifiers.now)) }
@@ -87,6 +89,7 @@ fn identifiers_len(c: &Comparator<'_>) -> usize
     }
 }
 
+#[inline(always)]
 fn put_identifiers(out: &mut [u8], at: usize, c: &Comparator<'_>) -> usize
     requires { at + length (spell_identifiers (found_in c.now.identifiers.now)) ≤ length out.old }
     ensures { Put out.old at (spell_identifiers (found_in c.now.identifiers.now)) out.new result }
@@ -100,6 +103,7 @@ fn put_identifiers(out: &mut [u8], at: usize, c: &Comparator<'_>) -> usize
 
 // A comparator behind a gap, if there is one.
 #[tactic(auto, using(crate::proofs::Spelled::lengths))]
+#[inline(always)]
 fn after_len(gap: Gap, c: Option<Comparator<'_>>) -> usize
     requires { length (spell_after (gap_of gap) (listed c)) < 18446744073709551616 }
     ensures { result ≡ length (spell_after (gap_of gap) (listed c.entry)) }
@@ -111,6 +115,7 @@ fn after_len(gap: Gap, c: Option<Comparator<'_>>) -> usize
 }
 
 #[tactic(auto, using(crate::proofs::Spelled::puts))]
+#[inline(always)]
 fn put_after(out: &mut [u8], at: usize, gap: Gap, c: Option<Comparator<'_>>) -> usize
     requires { at + length (spell_after (gap_of gap) (listed c)) ≤ length out.old }
     ensures { Put out.old at (spell_after (gap_of gap) (listed c.entry)) out.new result }
@@ -181,6 +186,7 @@ fn put_text(set: &RangeSet<'_>, out: &mut [u8])
 
 // The range set that the text is, and the length of its normal text, where so many lent bytes are enough: 01's calls take a text, a mode and what is lent.
 #[tactic(auto, using(crate::proofs::Calls::fits))]
+#[inline(always)]
 fn fit<'a>(s: &'a [u8], compat: Compat, lent: usize) -> Result<(RangeSet<'a>, usize), Refusal>
     ensures answer { length_with result ≡ normal_text_outcome (normal_text_call (compat_of compat) s.now lent) }
     ensures of { IfOk result (λ read. IsSetOf s.entry compat read.0) }

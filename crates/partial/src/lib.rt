@@ -77,14 +77,15 @@ pub enum PartialKind {
 // A kind and three numbers by value, as 01 has it in place of `Option` components. A component that was read and is above the largest number is
 // given as that, and marked: large. Where one could not be raised, over. They are marks and no refusals, since 01 refuses a number only once the
 // whole text is known to be a range's. The identifiers are count many, and what the text of that name begins with; where there are none, it is empty.
+// The three fields of one byte stand together, so that less of what is copied is padding.
 #[derive(Clone, Copy)]
 pub struct Partial<'a> {
     pub kind: PartialKind,
+    pub large: bool,
+    pub over: bool,
     pub major: u64,
     pub minor: u64,
     pub patch: u64,
-    pub large: bool,
-    pub over: bool,
     pub count: usize,
     pub identifiers: &'a [u8],
 }
@@ -137,6 +138,7 @@ impl<'a> Partial<'a> {
 
     // No component is read.
     #[tactic(auto, unfolding(crate::proofs::Opened::readers))]
+    #[inline(always)]
     pub fn zero() -> Self
         ensures answer { partial_is result ≡ held x_range_only }
         ensures text { result.identifiers.now ≡ [] }
@@ -290,6 +292,7 @@ fn skip_after_one(s: &[u8]) -> &[u8]
 
 // A partial, and what is left behind it.
 #[tactic(auto, using(crate::proofs::Components::partials))]
+#[inline(always)]
 pub fn read_partial(s: &[u8]) -> Option<(Partial<'_>, &[u8])>
     ensures answer { partial_in result ≡ partial_of (read_partial s.now) }
     ensures text { IfSome result (λ read. read.0.identifiers.now ≡ beginning s.now) }

@@ -45,6 +45,7 @@ fn opened(stage: Stage) -> usize
 
 // Of a text from its first step on; nothing where the text has no reading.
 #[tactic(auto, using(crate::proofs::Measuring::measuring))]
+#[inline(always)]
 fn measure(s: &[u8], compat: Compat, first: &Step<'_>) -> Option<Tally>
     requires s_len_bound { length s.now ≤ longest }
     requires first_value { Some (step_is first.now) ≡ first_step (compat_of compat) s.now }
@@ -78,6 +79,7 @@ fn measure(s: &[u8], compat: Compat, first: &Step<'_>) -> Option<Tally>
 
 // What a text of at most 65,535 bytes has, if none of 2 to 4 applies to it.
 #[tactic(auto, using(crate::proofs::Outcomes::counting))]
+#[inline(always)]
 fn count_measured(s: &[u8], compat: Compat, first: &Step<'_>) -> Result<Counts, Refusal>
     requires s_len_bound { length s.now ≤ longest }
     requires first_value { Some (step_is first.now) ≡ first_step (compat_of compat) s.now }
@@ -108,6 +110,7 @@ impl<'a> RangeSet<'a> {
     ghost use Rattle.rangeset.specs.Sets.{set_outcome, IsSetOf};
 
     #[tactic(auto, using(crate::proofs::Outcomes::counting))]
+    #[inline(always)]
     pub fn parse(text: &'a [u8], compat: Compat) -> Result<RangeSet<'a>, Refusal>
         ensures answer { set_outcome result ≡ reading_outcome (reading (compat_of compat) text.now) }
         ensures of { IfOk result (IsSetOf text.entry compat) }

@@ -25,6 +25,7 @@ pub struct Item {
 }
 
 // `as`, here and below: a usize has no From to u64, and try_from would add an arm that no call takes.
+#[inline(always)]
 pub fn put_comparator(words: &mut [u64], item: Item, c: Comparator<'_>)
     requires { comparator_width ≤ length words.old }
     ensures { Put words.old 0 (comparator_words item c.entry) words.new comparator_width }

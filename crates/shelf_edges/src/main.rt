@@ -102,10 +102,13 @@ fn plus(a: u64, b: u64) -> u64
 }
 
 fn put_checksum(rt: &impl Print, s: &[u8]) -> io::Result<()> {
-    let (a, b) = s.iter().fold((1, 0), |(a, b), byte| {
-        let next = plus(a, u64::from(*byte));
-        (next, plus(b, next))
-    });
+    let mut a = 1;
+    let mut b = 0;
+    // Two sums and no `fold` over a pair of them, which took half as long again.
+    for byte in s {
+        a = plus(a, u64::from(*byte));
+        b = plus(b, a);
+    }
     println!(rt; " {b} {a}")
 }
 

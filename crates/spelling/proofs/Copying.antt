@@ -1,16 +1,13 @@
--- Bytes copied into a part of lent memory.
+-- Bytes copied into lent memory, one behind another.
 -- Assumes nothing.
-use Rattle.std.proofs.Common.{ℕ, ◌≡◌, ◌+◌, ◌-◌, ◌≤◌, List, length, take, drop, append_assoc, refl, arith, ◌∙◌, sym}
-use Rattle.std.proofs.lemmas.Slice.{put_mid-paste}
-use Rattle.std.proofs.lemmas.List.Edits.{sets-eq, paste_all}
-use borrow.Rule.Slice.PartMut.{put_mid}
+use Rattle.std.proofs.Common.{ℕ, ◌≡◌, ◌+◌, ◌<◌, List, [], ◌∷◌, length, take, get_or, set, arith}
+use Rattle.std.proofs.lemmas.List.{take_more}
 use Rattle.rows.specs.Put.{Put}
+use Rattle.rows.proofs.Puts.{put_one, put_then}
 
-pub copied : (d w m : List ℕ) (at : ℕ) → at + length w ≤ length d → m ≡ w → Put d at w (put_mid at (at + length w - at) d m) (at + length w)
-copied d w m at h e =
-    record {
-      stored =
-          put_mid-paste at (at + length w - at) d m w (length w) e (omega arith) refl ∙ paste_all d at w (length w) refl
-          ∙ sym (append_assoc (take at d) w (drop (at + length w) d)) ∙ sym (sets-eq w d at h);
-      place = refl;
-    }
+-- the byte behind those that are copied
+pub copied_more : (start w now : List ℕ) (at i : ℕ) → Put start at (take i w) now (at + i) → i < length w
+    → Put start at (take (i + 1) w) (set now (at + i) (get_or w i 0)) (at + (i + 1))
+copied_more start w now at i p h =
+    let q = put_then p (put_one now (at + i) (get_or w i 0)) in
+    record { stored = rw (take_more w i 0 h) q.stored; place = rw (take_more w i 0 h) (omega (arith, q.place)) }

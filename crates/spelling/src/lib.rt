@@ -21,6 +21,7 @@ use partial::{Comparator, Op};
 
 // How many digits a number has, in decimal without leading zeros.
 #[tactic(auto, using(crate::proofs::Decimals::len_is))]
+#[inline(always)]
 pub fn decimal_len(n: u64) -> usize
     ensures value { result ≡ length (decimal n) }
     ensures small { result ≤ 20 }
@@ -30,6 +31,7 @@ pub fn decimal_len(n: u64) -> usize
 }
 
 #[tactic(auto, using(crate::proofs::Decimals::digits_length, crate::proofs::Decimals::digits_put))]
+#[inline(always)]
 pub fn put_decimal(out: &mut [u8], at: usize, n: u64) -> usize
     requires { at + length (decimal n) ≤ length out.old }
     ensures { Put out.old at (decimal n) out.new result }
@@ -40,6 +42,7 @@ pub fn put_decimal(out: &mut [u8], at: usize, n: u64) -> usize
 }
 
 // The dot, and then as put_decimal.
+#[inline(always)]
 fn put_dot_decimal(out: &mut [u8], at: usize, n: u64) -> usize
     requires { at + length (bytes "." ++ decimal n) ≤ length out.old }
     ensures { Put out.old at (bytes "." ++ decimal n) out.new result }
@@ -50,6 +53,7 @@ fn put_dot_decimal(out: &mut [u8], at: usize, n: u64) -> usize
 
 // Three numbers with dots between. triples::put_triple has the same three steps, but other bytes for each number and no dots.
 #[tactic(auto, using(crate::proofs::Triples::dottings), unfolding(crate::specs::Views::dotted))]
+#[inline(always)]
 fn put_triple(out: &mut [u8], at: usize, major: u64, minor: u64, patch: u64) -> usize
     requires { at + length (dotted major minor patch) ≤ length out.old }
     ensures { Put out.old at (dotted major minor patch) out.new result }
@@ -61,15 +65,16 @@ fn put_triple(out: &mut [u8], at: usize, major: u64, minor: u64, patch: u64) -> 
 
 // ---- bytes
 
-// Copies w.
-#[tactic(auto, using(crate::proofs::Copying::copied))]
+// Copies w. By a loop, since the library's copy becomes a call of the C library's, which the objects for C are not to need (docs/USERS.md).
+#[inline(always)]
 pub fn put_bytes(out: &mut [u8], at: usize, w: &[u8]) -> usize
     requires { at + length w.now ≤ length out.old }
     ensures { Put out.old at w.now out.new result }
 {
-    let end = at + w.len();
-    out[at..end].copy_from_slice(w);
-    end
+    for i in 0..w.len() {
+        out[at + i] = w[i];
+    }
+    at + w.len()
 }
 
 // `refused`, a blank and the number: any number, since a Refusal in its place would ask more of callers than this function does.

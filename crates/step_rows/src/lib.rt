@@ -21,6 +21,7 @@ pub struct Written {
 }
 
 // The row of a comparator, if there is one; answers how many words that is, as every writer does.
+#[inline(always)]
 fn put_row(words: &mut [u64], item: Item, comparator: Option<Comparator<'_>>) -> usize
     requires { length (row_words item comparator) ≤ length words.old }
     ensures { Put words.old 0 (row_words item comparator.entry) words.new result }
@@ -36,6 +37,7 @@ fn put_row(words: &mut [u64], item: Item, comparator: Option<Comparator<'_>>) ->
 
 // The rows of a step's comparators; answers how many words those are.
 #[tactic(auto, using(crate::proofs::Writing::stepping))]
+#[inline(always)]
 pub fn put_comparators(words: &mut [u64], item: Item, x: &Step<'_>) -> usize
     requires { length (step_comparator_words item (step_is x.now)) ≤ length words.old }
     ensures { Put words.old 0 (step_comparator_words item (step_is x.now)) words.new result }
@@ -46,6 +48,7 @@ pub fn put_comparators(words: &mut [u64], item: Item, x: &Step<'_>) -> usize
 
 // All rows of a step of the text s, behind those that are written; answers how many then are.
 #[tactic(auto, using(crate::proofs::Writing::placing), unfolding(crate::specs::Views::step_identifier_words))]
+#[inline(always)]
 pub fn put_step(
     s: &[u8],
     item: Item,

@@ -12,8 +12,8 @@ use Rattle.rules.specs.Admission.{versioned, version_fits, version_of}
 use Rattle.rules.proofs.VersionAccepted.{Decided, long, underivable, large, accepts, decided}
 use Rattle.lexer.specs.Views.{fitting, begun}
 use Rattle.lexer.specs.declared.Identifiers.{Identifiers}
-use Rattle.version.specs.Views.{read_numbers, numbers_of, read_tail, tail_in, tail_of, numbered, version_is, version_in, version_text_of, beginning}
-use Rattle.version.specs.declared.Version.{Version}
+use Rattle.version.specs.Views.{read_numbers, numbers_of, read_tail, tail_in, tail_of, Parts, parts_in, numbered, version_is, version_in, version_text_of, beginning}
+use Rattle.version.specs.declared.version.Version.{Version}
 use Rattle.std.specs.Prelude as Std
 use Rattle.std.specs.Prelude.{Ok, Err, IfOk, ok_or, drop}
 use Rattle.refusals.specs.declared.Refusal.{Refusal}
@@ -76,9 +76,9 @@ unfolding version_of version_text_of
 version_long s h = rw (lt-leb (length s) longest h)
 
 -- what the code answers of numbers, where each fits that is known
-abbrev text : Option Version → Std.Result (R.Version × ℕ) Refusal
+abbrev text : Option Parts → Std.Result (R.Version × ℕ) Refusal
 text None = Err VersionTooLarge
-text (Some x) = version_in (Ok x)
+text (Some x) = Ok (version x.0 x.1 x.2 (version_identifiers_in x.4.now), x.3)
 
 module _ (i j k : ℕ) (q : Identifiers) (is : List Identifier) (n : q.count ≡ length is) (e : version_identifiers_in q.text.now ≡ is) where
   fit : (a b c : Option ℕ) → a ≡ fitting i → b ≡ fitting j → c ≡ fitting k
@@ -158,13 +158,23 @@ module _ (s : List ℕ) (h : length s ≤ 65535) where
               let p : ◌≡◌ {A = ℕ × List Identifier} (q.count, version_identifiers_in q.text.now) (length is, is) = cc in
               fit numbered_is.major numbered_is.minor numbered_is.patch q is (ap (λ y. y.0) p) (ap (λ y. y.1) p) a b c numbered_is.major_is numbered_is.minor_is numbered_is.patch_is
 
-      pub version_read : (x : Version) → Some x ≡ numbered a b c q → version_in (Ok x) ≡ version_text_of (version_of s)
+      pub version_read : (x : Version) → parts_in (Some x) ≡ numbered a b c q → version_in (Ok x) ≡ version_text_of (version_of s)
       version_read x e = ap text e ∙ read
 
       pub version_large : None ≡ numbered a b c q → Err VersionTooLarge ≡ version_text_of (version_of s)
       version_large e = ap text e ∙ read
 
-pub ruleset versions = (version_long, version_unnumbered, version_broken, version_large, version_read)
+-- the identifiers that follow the numbers are as many as are counted
+pub tail_counted : (q : Identifiers) (v : List ℕ) → tail_in (Some q) ≡ tail_of (read_tail v) → q.count ≡ length (version_identifiers_in q.text.now)
+tail_counted q v k = go (read_tail v) k
+  where
+    go : (g : Result (List Identifier)) → tail_in (Some q) ≡ tail_of g → q.count ≡ length (version_identifiers_in q.text.now)
+    go fail k = cc
+    go (ok is r) k =
+        let p : ◌≡◌ {A = ℕ × List Identifier} (q.count, version_identifiers_in q.text.now) (length is, is) = cc in
+        ap (λ y. y.0) p ∙ sym (ap (λ y. length y.1) p)
+
+pub ruleset versions = (version_long, version_unnumbered, version_broken, version_large, version_read, tail_counted)
 
 -- ---- for callers
 
@@ -194,23 +204,23 @@ Begins s r = IfOk r (λ v. v.prerelease.now ≡ beginning s)
 
 module _ (s : List ℕ) (h : length s ≤ 65535) (a b c : Option ℕ) (v : List ℕ) (e : ok (a, b, c) v ≡ numbers_of (read_numbers s)) where
   module _ (q : Identifiers) (k : tail_in (Some q) ≡ tail_of (read_tail v)) (t : q.text.now ≡ begun (list_of (read_tail v)) (drop 1 v)) where
-    text_is : (x : Version) → Some x ≡ numbered a b c q → x.prerelease.now ≡ beginning s
+    text_is : (x : Version) → parts_in (Some x) ≡ numbered a b c q → x.prerelease.now ≡ beginning s
     unfolding beginning
     text_is x n = rw (version_held s (Ok x) (version_read s h a b c v e q k x n) x refl, numbered_text a b c n, (numbered_is s h a b c v e).is) (listed (read_tail v) k t)
       where
-        numbered_text : (a b c : Option ℕ) → Some x ≡ numbered a b c q → x.prerelease ≡ q.text
+        numbered_text : (a b c : Option ℕ) → parts_in (Some x) ≡ numbered a b c q → x.prerelease ≡ q.text
         numbered_text None b c n = cc
         numbered_text (Some a) None c n = cc
         numbered_text (Some a) (Some b) None n = cc
         numbered_text (Some a) (Some b) (Some c) n =
-            let i : x ≡ record { major = a; minor = b; patch = c; count = q.count; prerelease = q.text } = cc in ap (λ v. v.prerelease) i
+            let i : ◌≡◌ {A = Parts} (x.major, x.minor, x.patch, x.count, x.prerelease) (a, b, c, q.count, q.text) = cc in ap (λ y. y.4) i
 
         listed : (g : Result (List Identifier)) → tail_in (Some q) ≡ tail_of g → q.text.now ≡ begun (list_of g) (drop 1 v)
             → q.text.now ≡ begun (version_identifiers_in q.text.now) (drop 1 v)
         listed fail k t = cc
         listed (ok is r) k t = let p : ◌≡◌ {A = ℕ × List Identifier} (q.count, version_identifiers_in q.text.now) (length is, is) = cc in t ∙ ap (λ l. begun l (drop 1 v)) (sym (ap (λ y. y.1) p))
 
-    pub version_text : (o : Option Version) → o ≡ numbered a b c q → (y : Refusal) → Begins s (ok_or o y)
+    pub version_text : (o : Option Version) → parts_in o ≡ numbered a b c q → (y : Refusal) → Begins s (ok_or o y)
     version_text None n y = _
     version_text (Some x) n y = text_is x n
 

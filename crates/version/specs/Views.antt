@@ -3,6 +3,7 @@
 -- Assumes nothing.
 use Rattle.std.specs.Prelude as Std
 use Rattle.std.specs.Prelude.{Ok, Err, ℕ, List, [], Bool, ◌&&◌, eqb, length, drop, Option, Some, None}
+use Rattle.std.specs.Borrow.{Bor}
 use Rattle.rules.specs.Lists.{each}
 use Rattle.rules.specs.Bytes.{bytes, pick, is_digit, value}
 use Rattle.rules.specs.Syntax.{Identifier}
@@ -14,7 +15,7 @@ use Rattle.lexer.specs.Views.{fitting, begun, on_rest}
 use Rattle.rules.specs.Admission.{version_of}
 use Rattle.lexer.specs.declared.Identifiers.{Identifiers}
 use Rattle.version.specs.declared.Numbers.{Numbers}
-use Rattle.version.specs.declared.Version.{Version}
+use Rattle.version.specs.declared.version.Version.{Version}
 use Rattle.refusals.specs.declared.Refusal.{Refusal}
 use Rattle.refusals.specs.declared.Refusal.TheVariants.{NoVersion, VersionTooLarge}
 
@@ -58,12 +59,20 @@ tail_in (Some q) = Some (q.count, version_identifiers_in q.text.now)
 
 -- ---- versions
 
+-- what the code's version holds
+abbrev pub Parts : Type 0
+Parts = ℕ × ℕ × ℕ × ℕ × Bor (List ℕ)
+
+abbrev pub parts_in : Option Version → Option Parts
+parts_in None = None
+parts_in (Some v) = Some (v.major, v.minor, v.patch, v.count, v.prerelease)
+
 -- with what follows the numbers, where none is too large
-abbrev pub numbered : Option ℕ → Option ℕ → Option ℕ → Identifiers → Option Version
+abbrev pub numbered : Option ℕ → Option ℕ → Option ℕ → Identifiers → Option Parts
 numbered None b c q = None
 numbered (Some a) None c q = None
 numbered (Some a) (Some b) None q = None
-numbered (Some a) (Some b) (Some c) q = Some (record { major = a; minor = b; patch = c; count = q.count; prerelease = q.text })
+numbered (Some a) (Some b) (Some c) q = Some (a, b, c, q.count, q.text)
 
 -- the rules' version for the code's
 abbrev pub version_is : Version → R.Version

@@ -2,13 +2,15 @@
 // part of the text from its place on, and hands back what is left behind what it read, or nothing where it read nothing.
 #![tactic(auto)]
 
-ghost use Rattle.std.specs.Prelude.{◌≡◌, [], ◌∷◌, ℕ, List, drop, IfSome, IfOk};
+mod version;
+
+ghost use Rattle.std.specs.Prelude.{◌≡◌, [], ◌∷◌, ℕ, List, length, drop, IfSome, IfOk};
 ghost use Rattle.rules.specs.Syntax.{Identifier};
 ghost use Rattle.rules.specs.Parse.{list_of};
-ghost use Rattle.rules.specs.Version.{read_word, read_version_identifier, read_series};
+ghost use Rattle.rules.specs.Version.{read_word, read_version_identifier, read_series, version_identifiers_in};
 ghost use Rattle.rules.specs.Admission.{version_of};
 ghost use Rattle.lexer.specs.Views.{rest_in, rest_of, series_in, series_of, begun};
-ghost use Rattle.version.specs.Views.{padded, read_numbers, numbers_in, numbers_of, read_tail, tail_in, tail_of, numbered, version_in, version_text_of, beginning};
+ghost use Rattle.version.specs.Views.{padded, read_numbers, numbers_in, numbers_of, read_tail, tail_in, tail_of, numbered, parts_in, version_in, version_text_of, beginning};
 ghost use Rattle.version.specs.Takes.{word-takes, identifier-takes};
 
 use lexer::{
@@ -16,6 +18,7 @@ use lexer::{
     skip_identifiers, skip_run,
 };
 use refusals::{LONGEST, Refusal};
+pub use version::Version;
 
 // ---- identifiers
 
@@ -79,6 +82,7 @@ impl Reader for Build {
 // `skip_qualifier` leaves such a sign of a range. The sign is given beside the reader: as a method of the trait
 // it would be three functions with their ghost members for the two calls below.
 #[tactic(auto, using(crate::proofs::Tails::series))]
+#[inline(always)]
 fn skip_series<R: Reader>(s: &[u8], sign: u8) -> Option<Identifiers<'_>>
     ensures answer { series_in R.reads result ≡ series_of (read_series (sign ∷ []) R.reads s.now) }
     ensures text { IfSome result (λ found. found.text.now ≡ begun (list_of (read_series (sign ∷ []) R.reads s.now)) (drop 1 s.now)) }
@@ -106,6 +110,7 @@ struct Numbers<'a> {
 
 // Three numbers with dots between.
 #[tactic(auto, using(crate::proofs::Parts::numbers))]
+#[inline(always)]
 fn read_numbers(s: &[u8]) -> Option<Numbers<'_>>
     ensures { numbers_in result ≡ numbers_of (read_numbers s.now) }
 {
@@ -123,6 +128,7 @@ fn read_numbers(s: &[u8]) -> Option<Numbers<'_>>
 
 // The prerelease identifiers, where what follows the numbers is a version's to its end.
 #[tactic(auto, using(crate::proofs::Tails::tails))]
+#[inline(always)]
 fn read_tail(s: &[u8]) -> Option<Identifiers<'_>>
     ensures answer { tail_in result ≡ tail_of (read_tail s.now) }
     ensures text { IfSome result (λ found. found.text.now ≡ begun (list_of (read_tail s.now)) (drop 1 s.now)) }
@@ -135,20 +141,11 @@ fn read_tail(s: &[u8]) -> Option<Identifiers<'_>>
     Some(prerelease)
 }
 
-// The numbers, how many prerelease identifiers there are, and the text that they begin; where there are none, it is empty.
-#[derive(Clone, Copy)]
-pub struct Version<'a> {
-    pub major: u64,
-    pub minor: u64,
-    pub patch: u64,
-    pub count: usize,
-    pub prerelease: &'a [u8],
-}
-
 impl Numbers<'_> {
     // The version of these numbers, where none is too large.
     fn version<'a>(self, prerelease: Identifiers<'a>) -> Option<Version<'a>>
-        ensures { result ≡ numbered self.entry.major self.entry.minor self.entry.patch prerelease.entry }
+        requires { prerelease.count ≡ length (version_identifiers_in prerelease.text.now) }
+        ensures { parts_in result ≡ numbered self.entry.major self.entry.minor self.entry.patch prerelease.entry }
     {
         Some(Version {
             major: self.major?,

@@ -121,6 +121,19 @@ step_of begin end (W.step x st r) = pick (is_bad st) None (Some (stepped x (st, 
 
 -- ---- where a step reads
 
+-- a range begins
+abbrev pub is_range : W.Stage → Bool
+is_range W.item = false
+is_range W.range = true
+is_range W.right = false
+is_range W.only = false
+is_range W.end = false
+is_range W.bad = false
+
+-- where no item is read: a range is empty, and a further item is owed
+abbrev pub unread : Bool → List ℕ → W.Step
+unread first s = pick first (W.step_to E.everything (W.after_range s)) W.stuck
+
 -- behind the partial of an item; where none is read, where the item would begin
 abbrev pub item_end : List ℕ → List ℕ
 item_end s = W.answer (read_partial (W.partial_at s)) (λ p r. r) s

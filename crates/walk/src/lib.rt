@@ -10,7 +10,7 @@ ghost use Rattle.lexer.specs.Views.{rest_in, rest_of};
 ghost use Rattle.partial.specs.Views.{beginning};
 ghost use Rattle.range.specs.Views.{compat_of, prefix_of, shape_of, shape_in};
 ghost use Rattle.walk.specs.declared.Stage.TheVariants.{Right};
-ghost use Rattle.walk.specs.Views.{stage_of, behind_is, behind_in, closed_is, closed_in, next_is, next_behind, behind_next, expansion_behind, item_in, item_of, item_end, end_text, step_in, step_of, step_at, partial_text, Begins, ItemStep};
+ghost use Rattle.walk.specs.Views.{stage_of, behind_is, behind_in, closed_is, closed_in, next_is, next_behind, behind_next, expansion_behind, is_range, begin_text, unread, item_in, item_of, item_end, end_text, step_in, step_of, step_at, partial_text, Begins, ItemStep};
 
 use lexer::{Class, Space, skip_bytes, skip_spaces};
 use partial::{Op, Partial, PartialKind, read_partial};
@@ -30,6 +30,7 @@ pub enum Behind<'a> {
 
 // Behind a range and spaces: a further range, behind the separator; or the text's end, with nothing.
 #[tactic(auto, unfolding(crate::proofs::Opened::readers))]
+#[inline(always)]
 fn closes(s: &[u8]) -> Option<Option<&[u8]>>
     ensures { closed_in result ≡ W.closes s.now }
 {
@@ -40,6 +41,7 @@ fn closes(s: &[u8]) -> Option<Option<&[u8]>>
 }
 
 #[tactic(auto, unfolding(crate::proofs::Opened::readers))]
+#[inline(always)]
 fn after_range(s: &[u8]) -> Option<Option<&[u8]>>
     ensures { closed_in result ≡ W.after_range s.now }
 {
@@ -48,6 +50,7 @@ fn after_range(s: &[u8]) -> Option<Option<&[u8]>>
 
 // One or more spaces.
 #[tactic(auto, unfolding(crate::proofs::Opened::readers))]
+#[inline(always)]
 fn skip_some_spaces(s: &[u8]) -> Option<&[u8]>
     ensures { rest_in result ≡ rest_of (spaces₁ s.now) }
 {
@@ -206,9 +209,9 @@ fn read_item(s: &[u8]) -> Option<Item<'_>>
 // The step of an item that begins where s does. The first one of a range may be the left side of a hyphen range, if it is bare (`first` is a question
 // of two answers, as `dashed`).
 #[tactic(auto, unfolding(crate::proofs::Opened::readers))]
-fn item_step<'a>(s: &'a [u8], item: Item<'a>, first: bool, compat: Compat) -> Option<Step<'a>>
-    ensures answer { ItemStep (compat_of compat) first s.now item.entry result }
-    ensures text { IfSome result (λ x. x.partial.identifiers ≡ item.entry.partial.identifiers) }
+fn item_step<'a>(s: &'a [u8], item: &Item<'a>, first: bool, compat: Compat) -> Option<Step<'a>>
+    ensures answer { ItemStep (compat_of compat) first s.now item.now result }
+    ensures text { IfSome result (λ x. x.partial.identifiers ≡ item.now.partial.identifiers) }
 {
     let behind = follow(item.end, first & item.prefix.is_none())?;
     let e = expanded(item.prefix, &item.partial, behind, compat);
@@ -241,39 +244,47 @@ fn right_step(s: &[u8], left: PartialKind) -> Option<Step<'_>>
     })
 }
 
-// A range from its first item on, or an empty one.
+// An item, if there is one. Where none is, a range is empty; a further item is owed behind what ends one.
 #[tactic(auto, using(crate::proofs::Steps::unread_begins), unfolding(crate::proofs::Opened::readers))]
-fn range_step(s: &[u8], compat: Compat) -> Option<Step<'_>>
-    ensures answer { step_in result ≡ step_of s.now (item_end s.now) (W.next_item (compat_of compat) true (W.step_to E.everything (W.after_range s.now)) s.now) }
+fn item_at(s: &[u8], first: bool, compat: Compat) -> Option<Step<'_>>
+    ensures answer { step_in result ≡ step_of s.now (item_end s.now) (W.next_item (compat_of compat) first (unread first s.now) s.now) }
     ensures text { IfSome result (Begins (W.partial_at s.now)) }
 {
-    match read_item(s) {
-        Some(item) => item_step(s, item, true, compat),
-        None => everything(s),
+    match &read_item(s) {
+        Some(item) => item_step(s, item, first, compat),
+        None => {
+            if first {
+                return everything(s);
+            }
+            None
+        }
     }
 }
 
-// A further item.
-#[tactic(auto, unfolding(crate::proofs::Opened::readers))]
-fn further_step(s: &[u8], compat: Compat) -> Option<Step<'_>>
-    ensures answer { step_in result ≡ step_of s.now (item_end s.now) (W.next_item (compat_of compat) false W.stuck s.now) }
-    ensures text { IfSome result (Begins (W.partial_at s.now)) }
+// Where an item begins at this stage, behind the spaces before a range; and whether it is a range's first.
+fn item_from(s: &[u8], stage: Stage) -> (&[u8], bool)
+    ensures begin { result.0.now ≡ begin_text (stage_of stage) s.now }
+    ensures first { result.1 ≡ is_range (stage_of stage) }
 {
-    item_step(s, read_item(s)?, false, compat)
+    match stage {
+        Stage::Range => (skip_spaces(s), true),
+        Stage::Item | Stage::Right(_) => (s, false),
+    }
 }
 
 // One piece, expanded, and where the next one begins; nothing where there is no reading from here on. A match on the stage, which a step hands on: a
-// function in its place would be handed out, which the gate refuses.
+// function in its place would be handed out, which the gate refuses. An item is read at one place for both its stages, so that the compiler writes its
+// reader into this one.
 #[tactic(auto, using(crate::proofs::Steps::right_at), unfolding(crate::proofs::Opened::readers))]
 pub fn next(s: &[u8], stage: Stage, compat: Compat) -> Option<Step<'_>>
     ensures answer { step_in result ≡ step_at (compat_of compat) (stage_of stage) s.now }
     ensures text { IfSome result (Begins (partial_text (stage_of stage) s.now)) }
 {
-    match stage {
-        Stage::Item => further_step(s, compat),
-        Stage::Range => range_step(skip_spaces(s), compat),
-        Stage::Right(left) => right_step(s, left),
+    if let Stage::Right(left) = stage {
+        return right_step(s, left);
     }
+    let (begin, first) = item_from(s, stage);
+    item_at(begin, first, compat)
 }
 
 impl<'a> Step<'a> {
