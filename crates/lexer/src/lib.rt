@@ -1,8 +1,8 @@
 // Bytes, spaces, numbers and identifiers: what src/generated.rs of the crate reads. Each reader is given the part of the text from its
 // place on, and hands back what is left behind what it read, or nothing where it read nothing.
 //
-// A hint on inlining, here and in the crates above, stands on a function with several callers that every short reading, normal text or admission goes
-// through: out of line it would hand what it read on through memory (docs/SPEED.md).
+// A hint on inlining, here and in the crates above, stands on a function that every short reading, normal text or admission goes through: out of line it
+// would hand what it read on through memory (docs/SPEED.md).
 #![tactic(auto)]
 
 ghost use Rattle.std.specs.Prelude.{◌≡◌, ◌+◌, ◌<◌, ◌≤◌, ℕ, Bool, List, true, length, drop, IfSome};
@@ -148,7 +148,7 @@ fn push(value: Option<u64>, digit: u8) -> Option<u64>
     value?.checked_mul(10)?.checked_add(u64::from(digit - b'0'))
 }
 
-// The digits that s begins with, behind a digit of the value start. The library's `parse` reads a whole `&str`, and would not say where the digits end.
+// The digits that s begins with, behind others of the value start. The library's `parse` reads a whole `&str`, and would not say where the digits end.
 #[tactic(auto, using(crate::proofs::Numbers::digits), unfolding(rules::specs::Parse::count))]
 #[inline(always)]
 fn read_digits(s: &[u8], start: u64) -> Number<'_>

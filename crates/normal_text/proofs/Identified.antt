@@ -1,6 +1,6 @@
 -- The identifiers of a comparator are spelled by their bytes in the text.
 -- Assumes nothing.
-use Rattle.std.proofs.Common.{ℕ, ◌≡◌, List, [], ◌∷◌, ◌++◌, refl, sym, ap, ◌∙◌}
+use Rattle.std.proofs.Common.{ℕ, ◌≡◌, List, [], ◌∷◌, ◌++◌, length, refl, sym, ap, ◌∙◌, arith}
 use Rattle.rules.specs.Bytes.{bytes}
 use Rattle.rules.specs.Syntax.{Identifier}
 use Rattle.rules.specs.Parse.{Result, fail, ok, ◌then◌, all, read_identifier, read_dot_identifier, read_identifiers, list_of, found_in}
@@ -8,6 +8,7 @@ use Rattle.rules.specs.NormalText.{spell_identifiers}
 use Rattle.rules.specs.Version.{read_after_dot}
 use Rattle.rules.proofs.Source.{identifiers-taken}
 use Rattle.lexer.specs.Views.{before, series_of, read_series}
+use Rattle.lexer.proofs.Series.{found_none}
 
 module _ (s : List ℕ) where
   series_is : read_series read_identifier s ≡ read_identifiers s
@@ -46,4 +47,10 @@ module _ (s : List ℕ) where
       go fail q = let k : read_series read_identifier s ≡ fail = rw q in let z : ok n r ≡ fail = e ∙ ap series_of k in cc
       go (ok i t) q = further i t q (all (read_after_dot read_identifier) t) refl
 
-pub ruleset identified = (unnamed, named)
+-- an empty text has none
+pub empty : (s : List ℕ) → length s ≡ 0 → [] ≡ spell_identifiers (found_in s)
+unfolding spell_identifiers
+empty [] e = rw found_none refl
+empty (c ∷ s) e = absurd (omega (arith, e))
+
+pub ruleset identified = (unnamed, named, empty)

@@ -74,6 +74,9 @@ impl Gap {
 fn identifiers<'a>(c: &Comparator<'a>) -> Option<&'a [u8]>
     ensures { signed result ≡ spell_identifiers (found_in c.now.identifiers.now) }
 {
+    if c.identifiers.is_empty() {
+        return None;
+    }
     let found = skip_identifiers::<Ranges>(c.identifiers)?;
     Some(before(found.text, found.left))
 }

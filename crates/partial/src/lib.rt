@@ -77,17 +77,18 @@ pub enum PartialKind {
 // A kind and three numbers by value, as 01 has it in place of `Option` components. A component that was read and is above the largest number is
 // given as that, and marked: large. Where one could not be raised, over. They are marks and no refusals, since 01 refuses a number only once the
 // whole text is known to be a range's. The identifiers are count many, and what the text of that name begins with; where there are none, it is empty.
-// The three fields of one byte stand together, so that less of what is copied is padding.
+// The three fields of one byte stand together, and last: the bytes between fields are copied with them, and where these stand tells what that costs
+// (docs/DECISIONS.md).
 #[derive(Clone, Copy)]
 pub struct Partial<'a> {
-    pub kind: PartialKind,
-    pub large: bool,
-    pub over: bool,
     pub major: u64,
     pub minor: u64,
     pub patch: u64,
     pub count: usize,
     pub identifiers: &'a [u8],
+    pub kind: PartialKind,
+    pub large: bool,
+    pub over: bool,
 }
 
 // An operator, the numbers, and the identifiers; over as in the partial. Five fields are those of `Partial`, and of a version: a struct of them

@@ -1,6 +1,6 @@
 -- Bytes copied into lent memory, one behind another.
 -- Assumes nothing.
-use Rattle.std.proofs.Common.{ℕ, ◌≡◌, ◌+◌, ◌<◌, List, [], ◌∷◌, length, take, get_or, set, arith}
+use Rattle.std.proofs.Common.{ℕ, ◌+◌, ◌<◌, List, length, take, get_or, set, arith}
 use Rattle.std.proofs.lemmas.List.{take_more}
 use Rattle.rows.specs.Put.{Put}
 use Rattle.rows.proofs.Puts.{put_one, put_then}

@@ -31,11 +31,16 @@ power-length (suc k) n p q h =
     let m = power-length k (n / 10) (omega arith) (omega arith) (omega arith) in
     rw (decimal_is n h, decimal_step n (omega (arith, one-le-pow 10 k)) h) (omega (arith, length-append (F.decimal (n / 10)) ((48 + n % 10) ∷ []), m, ap length (decimal_is (n / 10) (omega arith))))
 
+pub one_digit : (n : ℕ) → n < 10 → 1 ≡ length (decimal n)
+one_digit n h = rw (decimal_is n (omega arith)) (ap length (sym (decimal_digit n h)))
+
 -- by the library's power of ten, and 0 for none
 pub len_is : (n : ℕ) (o : Option ℕ) → IfNone o (n ≡ 0) → IfSome o (λ k. 10 ^ k ≤ n) → IfSome o (λ k. n < 10 * 10 ^ k) → n < 2 ^ 64
     → unwrap_or o 0 + 1 ≡ length (decimal n)
 len_is n (Some k) z p q h = sym (power-length k n p q h)
 len_is n None z p q h = rw (decimal_is n h) (ap length (sym (decimal_digit n (omega (arith, z)))))
+
+pub ruleset lengths = (one_digit, len_is)
 
 -- ---- stored
 

@@ -20,12 +20,16 @@ use partial::{Comparator, Op};
 // ---- numbers
 
 // How many digits a number has, in decimal without leading zeros.
-#[tactic(auto, using(crate::proofs::Decimals::len_is))]
+#[tactic(auto, using(crate::proofs::Decimals::lengths))]
 #[inline(always)]
 pub fn decimal_len(n: u64) -> usize
     ensures value { result ≡ length (decimal n) }
     ensures small { result ≤ 20 }
 {
+    // Most numbers have one digit.
+    if n < 10 {
+        return 1;
+    }
     // `as`: a usize has no From of a u32, and try_from would add an arm that no call takes.
     n.checked_ilog10().unwrap_or(0) as usize + 1
 }
@@ -107,6 +111,7 @@ pub fn comparator_len(c: &Comparator<'_>) -> usize
 
 // The operator, then major, minor and patch with dots between: a comparator without its identifiers.
 #[tactic(auto, using(crate::proofs::Triples::triples))]
+#[inline(always)]
 pub fn put_comparator(out: &mut [u8], at: usize, c: &Comparator<'_>) -> usize
     requires { at + length (spelled_triple c.now) ≤ length out.old }
     ensures { Put out.old at (spelled_triple c.now) out.new result }

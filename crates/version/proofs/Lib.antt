@@ -1,4 +1,4 @@
 pub mod Words
-pub mod Parts
+pub mod Dotted
 pub mod Tails
 pub mod VersionLaws

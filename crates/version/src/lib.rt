@@ -109,7 +109,7 @@ struct Numbers<'a> {
 }
 
 // Three numbers with dots between.
-#[tactic(auto, using(crate::proofs::Parts::numbers))]
+#[tactic(auto, using(crate::proofs::Dotted::numbers))]
 #[inline(always)]
 fn read_numbers(s: &[u8]) -> Option<Numbers<'_>>
     ensures { numbers_in result ≡ numbers_of (read_numbers s.now) }

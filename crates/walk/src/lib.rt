@@ -107,15 +107,15 @@ pub enum Stage {
 
 // A piece, expanded: the partial, whose numbers as they stand go under the operator that is kept, and of which a component is raised. Its item begins
 // where `begin` does, with its operator if it has one, and behind the partial stands `end`. The next step begins at a stage, unless the text ends.
-// The two of an expansion stand in the step itself, since every pass reads them.
+// The two of an expansion stand in the step itself, since every pass reads them; the partial stands last, as its fields of one byte do in it.
 #[derive(Clone, Copy)]
 pub struct Step<'a> {
     pub kept: Option<Op>,
     pub raised: Option<Component>,
-    pub partial: Partial<'a>,
     pub next: Option<(Stage, &'a [u8])>,
     pub begin: &'a [u8],
     pub end: &'a [u8],
+    pub partial: Partial<'a>,
 }
 
 // Where the next step begins behind an item; the right side of a hyphen range has it as its left side, of this kind.
