@@ -109,10 +109,11 @@ pub fn skip_run<C: Class>(s: &[u8]) -> &[u8]
     }
 }
 
-// By a loop of its own, since spaces need no count of 16 bits.
+// Those of a run behind its first two. By a loop of its own, since spaces need no count of 16 bits; out of line, since written into its callers it took up
+// to six tenths more for each space, by what stood around it (docs/DECISIONS.md).
 #[tactic(auto, unfolding(rules::specs::Parse::count))]
-#[inline(always)]
-pub fn skip_spaces(s: &[u8]) -> &[u8]
+#[inline(never)]
+fn skip_further_spaces(s: &[u8]) -> &[u8]
     ensures { result.now ≡ skip s.now }
 {
     let mut left = s;
@@ -123,6 +124,21 @@ pub fn skip_spaces(s: &[u8]) -> &[u8]
         left = behind;
     }
     left
+}
+
+// Most runs have one space, or none.
+#[tactic(auto, unfolding(rules::specs::Parse::count))]
+#[inline(always)]
+pub fn skip_spaces(s: &[u8]) -> &[u8]
+    ensures { result.now ≡ skip s.now }
+{
+    match s {
+        [first, behind @ ..] if Space::has(*first) => match behind {
+            [second, left @ ..] if Space::has(*second) => skip_further_spaces(left),
+            _ => behind,
+        },
+        _ => s,
+    }
 }
 
 // ---- numbers

@@ -1,6 +1,6 @@
 use Rattle.std.proofs.Common.{◌≡◌, length}
 use Rattle.rules.specs.Parse.{skip}
-use Rattle.lexer.proofs.skip_spaces.Given as goal
+use Rattle.lexer.proofs.skip_further_spaces.Given as goal
 
 abbrev pub invariant-loop-left : goal.invariant-loop-left
 invariant-loop-left l = skip l.fn.s ≡ skip l.left
